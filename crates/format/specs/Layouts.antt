@@ -1,0 +1,32 @@
+-- The range of each number of a document.
+use mathlib.Core.Bool.{cond}
+use Prim.Native.Nat.{ℕ, _+_, _-_, _/_, _%_}
+use lib.Dec.{ltb}
+use lib.IntN.{ℤ, pos, negsuc, natAbs}
+use Rattle.format.specs.Ranges.{from-to}
+use Rattle.format.specs.Sizes.{off-at, over-law-at, k-at, noise-at}
+use Rattle.format.specs.declared.range.Range.{Range}
+
+abbrev pub size-of-2000 : Range
+size-of-2000 = from-to (negsuc 1999) (pos 2000)
+
+-- twice off is at least over, so that off is at least half of over, rounded up
+abbrev pub design-range : ℕ → ℤ → ℕ → Range
+design-range n over i =
+    cond (ltb i 1) (from-to (pos 1) (pos 6))
+    (cond (ltb i 2) (from-to (pos 1) (pos 30000))
+    (cond (ltb i 3) (from-to (pos 1) (pos 1000))
+    (cond (ltb i (off-at n)) size-of-2000
+    (cond (ltb i (over-law-at n)) (from-to (pos ((natAbs over + 1) / 2)) (pos 1000000))
+    (cond (ltb i (k-at n)) (from-to (pos 1) (pos 1000))
+    (cond (ltb i (noise-at n)) size-of-2000
+    (from-to (pos 0) (pos 1000))))))))
+
+abbrev pub set-range : ℕ → ℕ → Range
+set-range n i =
+    cond (ltb i 1) (from-to (pos 1) (pos 24))
+    (cond (ltb ((i - 1) % (n + 1)) n) (from-to (negsuc 99) (pos 100))
+    (from-to (pos 0) (pos 3000000)))
+
+abbrev pub sheet-range : ℕ → Range
+sheet-range i = cond (ltb i 1) (from-to (pos 1) (pos 100)) (from-to (pos 0) (pos 500000000))

@@ -1,0 +1,89 @@
+//! The ranges of the three documents.
+ghost use mathlib.Core.Path.{_≡_};
+ghost use Prim.Native.Nat.{ℕ, _+_, _*_, _/_, _≤_, _<_};
+ghost use lib.IntN.{pos, natAbs};
+ghost use Rattle.format.specs.Layouts.{design-range as designRange, set-range as setRange, sheet-range as sheetRange};
+use crate::layout::Layout;
+use crate::range::Range;
+
+/// What the ranges of a design's numbers depend on: its size, and the denominator that `off` has to be half of.
+#[derive(Clone, Copy)]
+pub(crate) struct DesignLayout {
+    pub n: usize,
+    pub over: i64,
+    ghost small: { n ≤ 6 },
+}
+
+pub(crate) impl Layout for DesignLayout as LayoutOfDesign {
+    ghost ranges = { λ d i. designRange (d .n) (d .over) i };
+
+    fn range(&self, i: usize) -> Range {
+        let n = self.n;
+        let off = 3 + n * n + n;
+        let over_law = off + n;
+        let k = over_law + 1;
+        let noise = k + n;
+        if i < 1 {
+            Range { low: 1, high: 6 }
+        } else if i < 2 {
+            Range { low: 1, high: 30_000 }
+        } else if i < 3 {
+            Range { low: 1, high: 1_000 }
+        } else if i < off {
+            Range { low: -2_000, high: 2_000 }
+        } else if i < over_law {
+            Range { low: half_up(self.over), high: 1_000_000 }
+        } else if i < k {
+            Range { low: 1, high: 1_000 }
+        } else if i < noise {
+            Range { low: -2_000, high: 2_000 }
+        } else {
+            Range { low: 0, high: 1_000 }
+        }
+    }
+}
+
+/// Half of the size of `x`, rounded up.
+fn half_up(x: i64) -> i64
+    ensures { λ r. ⌜ r ≡ pos ((natAbs x + 1) / 2) ⌝ }
+{
+    let size = x.unsigned_abs();
+    (size / 2 + size % 2) as i64
+}
+
+/// The size of the state, on which it depends where a face's row ends and its top stands.
+#[derive(Clone, Copy)]
+pub(crate) struct SetLayout {
+    pub n: usize,
+    ghost small: { n ≤ 6 },
+}
+
+pub(crate) impl Layout for SetLayout as LayoutOfSet {
+    ghost ranges = { λ s i. setRange (s .n) i };
+
+    fn range(&self, i: usize) -> Range {
+        if i < 1 {
+            Range { low: 1, high: 24 }
+        } else if (i - 1) % (self.n + 1) < self.n {
+            Range { low: -100, high: 100 }
+        } else {
+            Range { low: 0, high: 3_000_000 }
+        }
+    }
+}
+
+/// A sheet's ranges depend on nothing.
+#[derive(Clone, Copy)]
+pub(crate) struct SheetLayout;
+
+pub(crate) impl Layout for SheetLayout as LayoutOfSheet {
+    ghost ranges = { λ _ i. sheetRange i };
+
+    fn range(&self, i: usize) -> Range {
+        if i < 1 {
+            Range { low: 1, high: 100 }
+        } else {
+            Range { low: 0, high: 500_000_000 }
+        }
+    }
+}

@@ -1,0 +1,35 @@
+-- Cells that a loop writes one by one, and tables with equal cells.
+use mathlib.Core.Path.{_≡_}
+use mathlib.Core.Logic.{_≢_}
+use mathlib.Core.List.{List, [], _∷_}
+use Prim.Native.Nat.{ℕ, zero, suc, _+_, _^_, _≤_, _<_}
+use native.Mathlib.Omega.{arith}
+use borrow.Author.Count.{below-more}
+use borrow.Author.Differences.{ints}
+use lib.IntN.{ℤ, pos, natAbs}
+use lib.ListN.{length, getD, set, replicate}
+use lib.Seq.{getD-set-same, getD-set-other}
+use mir.Syntax.{w32, w64}
+use mir.Val.{toZ, ofZ, SFits}
+use Rattle.linear.specs.Tables.{at, Within}
+
+pub zeros-within : (b n : ℕ) → Within b (replicate n (pos 0))
+zeros-within b zero i = omega arith
+zeros-within b (suc n) zero = omega arith
+zeros-within b (suc n) (suc i) = zeros-within b n i
+
+pub set-within : (b : ℕ) (xs : List ℤ) (i : ℕ) (v : ℤ) → Within b xs → natAbs v ≤ b → Within b (set xs i v)
+set-within b [] i v w h k = w k
+set-within b (x ∷ xs) zero v w h zero = h
+set-within b (x ∷ xs) zero v w h (suc k) = w (suc k)
+set-within b (x ∷ xs) (suc i) v w h zero = w zero
+set-within b (x ∷ xs) (suc i) v w h (suc k) = set-within b xs i v (λ j. w (suc j)) h k
+
+-- cells that f gives up to i, with f i written at i, are cells that f gives up to i + 1
+pub entries-more : (f : ℕ → ℤ) (xs : List ℤ) (i : ℕ) → i < length xs → ((k : ℕ) → k < i → at xs k ≡ f k) → (k : ℕ) → k < i + 1 → at (set xs i (f i)) k ≡ f k
+entries-more f xs i l h =
+    below-more _ _ (λ k m. let ne : k ≢ i = omega arith in rw getD-set-other (h k m)) (rw getD-set-same)
+
+-- a number that is small enough for 32 bits, cast to them
+pub narrowed : (a z : ℤ) (b : ℕ) → SFits w64 a → a ≡ z → natAbs z ≤ b → b < 2 ^ 31 → toZ w32 (ofZ w32 (toZ w64 (ofZ w64 a))) ≡ z
+narrowed a z b f e h l = omega (arith, ints)
