@@ -2,5 +2,9 @@ pub mod Blocks
 pub mod Layouts
 pub mod Numbers
 pub mod Ranges
+pub mod Reading
+pub mod Refusals
 pub mod Sizes
 pub mod Slots
+pub mod Spelling
+pub mod Values

@@ -4,6 +4,7 @@ use mathlib.Core.List.{List}
 use Prim.Native.Nat.{ℕ, _+_, _*_, _/_, _%_, _≤_, _<_}
 use lib.IntN.{ℤ, pos, natAbs}
 use lib.ListN.{length}
+use lib.Signed.{_≤ℤ_}
 use Rattle.format.specs.Blocks.{used}
 use Rattle.format.specs.Numbers.{number}
 use Rattle.format.specs.declared.blocks.Block.{Block}
@@ -26,3 +27,10 @@ Present bytes k = 8 * k + 8 ≤ length bytes
 
 abbrev pub Small : ℕ → List ℕ → ℕ → Type 0
 Small bound bytes k = natAbs (number bytes k) ≤ bound
+
+-- P of each of count numbers from number base on
+abbrev pub Numbers : ℕ → ℕ → (ℕ → Type 0) → Type 0
+Numbers base count P = (k : ℕ) → k < count → P (base + k)
+
+abbrev pub Above : List ℕ → ℕ → Type 0
+Above bytes k = pos 0 ≤ℤ number bytes k

@@ -1,10 +1,13 @@
 //! Numbers of a document that belong to one table.
 ghost use mathlib.Core.Path.{_≡_};
-ghost use Prim.Native.Nat.{ℕ, _+_, _*_, _^_, _≤_, _<_};
-ghost use lib.IntN.{natAbs};
+ghost use Prim.Native.Nat.{ℕ, _+_, _*_, _/_, _%_, _^_, _≤_, _<_};
+ghost use lib.IntN.{pos};
 ghost use lib.ListN.{length};
-ghost use Rattle.linear.specs.Tables.{at as entryOf};
-ghost use Rattle.format.specs.Slots.{place as placeOf, slot as slotOf, Each, Present, Small};
+ghost use lib.Signed.{_≤ℤ_};
+ghost use Rattle.linear.specs.Tables.{at as entryOf, grid as gridOf};
+ghost use Rattle.format.specs.Blocks.{Blank};
+ghost use Rattle.format.specs.Numbers.{number as numberOf};
+ghost use Rattle.format.specs.Slots.{place as placeOf, slot as slotOf, Each, Present, Small, Numbers, Above};
 use crate::blocks::Block;
 use crate::number::number_at;
 use linear::table::Table;
@@ -46,4 +49,38 @@ pub(crate) fn read_block<const LEN: usize, const BOUND: u32>(
         cells[s] = slot(bytes, block, s) as i32;
     }
     Table { cells }
+}
+
+/// The table of `count` numbers from number `base` on.
+pub(crate) fn read_row<const LEN: usize, const BOUND: u32>(
+    bytes: &[u8],
+    base: usize,
+    count: usize,
+) -> Table<LEN, BOUND>
+    requires room { ⌜ count ≤ LEN ⌝ ∗ ⌜ BOUND < 2 ^ 31 ⌝ }
+    requires there { ⌜ 8 * (base + count) ≤ length (now bytes) ⌝ }
+    requires small { ⌜ Numbers base count (Small BOUND (now bytes)) ⌝ }
+    ensures each { λ r. ⌜ ((k : ℕ) → k < count → entryOf (r .cells) k ≡ numberOf (now (bytes .entry)) (base + k)) ⌝ }
+    ensures blank { λ r. ⌜ Blank 1 count 1 (r .cells) ⌝ }
+    ensures above { λ r. ⌜ (Numbers base count (Above (now (bytes .entry))) → (s : ℕ) → pos 0 ≤ℤ entryOf (r .cells) s) ⌝ }
+{
+    read_block(bytes, Block { base, rows: count, columns: 1, pitch: 1, stride: 1 })
+}
+
+/// The table of `rows` rows of `columns` numbers from number `base` on, its rows `stride` apart.
+pub(crate) fn read_grid<const LEN: usize, const BOUND: u32>(
+    bytes: &[u8],
+    base: usize,
+    rows: usize,
+    columns: usize,
+    stride: usize,
+) -> Table<LEN, BOUND>
+    requires room { ⌜ stride * rows ≤ LEN ⌝ ∗ ⌜ 0 < columns ⌝ ∗ ⌜ columns ≤ stride ⌝ ∗ ⌜ BOUND < 2 ^ 31 ⌝ }
+    requires there { ⌜ 8 * (base + rows * columns) ≤ length (now bytes) ⌝ }
+    requires small { ⌜ Numbers base (rows * columns) (Small BOUND (now bytes)) ⌝ }
+    ensures each { λ r. ⌜ ((k : ℕ) → k < rows * columns → gridOf stride (r .cells) (k / columns) (k % columns) ≡ numberOf (now (bytes .entry)) (base + k)) ⌝ }
+    ensures blank { λ r. ⌜ Blank stride rows columns (r .cells) ⌝ }
+    ensures above { λ r. ⌜ (Numbers base (rows * columns) (Above (now (bytes .entry))) → (s : ℕ) → pos 0 ≤ℤ entryOf (r .cells) s) ⌝ }
+{
+    read_block(bytes, Block { base, rows, columns, pitch: columns, stride })
 }

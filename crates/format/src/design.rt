@@ -40,5 +40,5 @@ pub struct Design {
     ghost limited: { (1 ≤ limit) × (limit ≤ 30000) },
     ghost halved: { (i : ℕ) → i < n → pos (plant .over) ≤ℤ (pos 2 *ℤ entryOf (plant .off .cells) i) },
     ghost quiet: { (i : ℕ) → pos 0 ≤ℤ entryOf (noise .cells) i },
-    ghost blank: { Blank most-numbers n n (plant .a .cells) × Blank most-numbers 1 n (plant .b .cells) × Blank most-numbers 1 n (plant .off .cells) × Blank most-numbers 1 n (law .k .cells) × Blank most-numbers 1 n (noise .cells) },
+    ghost blank: { Blank most-numbers n n (plant .a .cells) × Blank 1 n 1 (plant .b .cells) × Blank 1 n 1 (plant .off .cells) × Blank 1 n 1 (law .k .cells) × Blank 1 n 1 (noise .cells) },
 }

@@ -7,9 +7,15 @@ pub mod blocks;
 pub mod certificate;
 pub mod claim;
 pub mod design;
+
 pub mod faces;
+pub mod faults;
 pub mod layout;
 pub mod number;
+pub mod numbered;
 pub mod range;
+pub mod refusal;
 pub mod ranges;
 pub mod sizes;
+pub mod sound;
+pub mod values;
