@@ -1,3 +1,5 @@
+pub mod Chains
+pub mod Designs
 pub mod Order
 pub mod Spelling
 pub mod Tables

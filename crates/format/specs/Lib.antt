@@ -1,6 +1,7 @@
 pub mod Blocks
 pub mod Layouts
 pub mod Numbers
+pub mod Parts
 pub mod Ranges
 pub mod Reading
 pub mod Refusals

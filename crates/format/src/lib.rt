@@ -10,6 +10,7 @@ pub mod design;
 
 pub mod faces;
 pub mod faults;
+pub mod fill;
 pub mod layout;
 pub mod number;
 pub mod numbered;

@@ -1,8 +1,8 @@
 -- Cells that a loop writes one by one, and tables with equal cells.
-use mathlib.Core.Path.{_≡_}
-use mathlib.Core.Logic.{_≢_}
+use mathlib.Core.Path.{_≡_, sym, ap, _∙_}
+use mathlib.Core.Logic.{_≢_, inl, inr}
 use mathlib.Core.List.{List, [], _∷_}
-use Prim.Native.Nat.{ℕ, zero, suc, _+_, _^_, _≤_, _<_}
+use Prim.Native.Nat.{ℕ, zero, suc, _+_, _^_, min, _≤_, _<_}
 use native.Mathlib.Omega.{arith}
 use borrow.Author.Count.{below-more}
 use borrow.Author.Differences.{ints}
@@ -11,6 +11,8 @@ use lib.ListN.{length, getD, set, replicate}
 use lib.Seq.{getD-set-same, getD-set-other}
 use mir.Syntax.{w32, w64}
 use mir.Val.{toZ, ofZ, SFits}
+use Rattle.std.proofs.shelf.Lists.{getD-past}
+use Rattle.std.proofs.shelf.Tests.{cases-lt}
 use Rattle.linear.specs.Tables.{at, Within}
 
 pub zeros-within : (b n : ℕ) → Within b (replicate n (pos 0))
@@ -33,3 +35,11 @@ entries-more f xs i l h =
 -- a number that is small enough for 32 bits, cast to them
 pub narrowed : (a z : ℤ) (b : ℕ) → SFits w64 a → a ≡ z → natAbs z ≤ b → b < 2 ^ 31 → toZ w32 (ofZ w32 (toZ w64 (ofZ w64 a))) ≡ z
 narrowed a z b f e h l = omega (arith, ints)
+
+-- two indices that are the same, or both past the last cell
+pub capped : (xs : List ℤ) (i m top : ℕ) → length xs ≤ top → min i top ≡ min m top → at xs i ≡ at xs m
+capped xs i m top l e =
+    elim (cases-lt m top) [
+      | inl p ↦ ap (at xs) (omega arith)
+      | inr p ↦ getD-past xs i (pos 0) (omega arith) ∙ sym (getD-past xs m (pos 0) (omega arith))
+    ]

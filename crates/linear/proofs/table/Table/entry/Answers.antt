@@ -1,3 +1,4 @@
+-- Past the last cell there is 0.
 use mathlib.Core.Path.{sym}
 use native.Mathlib.Omega.{arith}
 use Prim.Native.Nat.{_≤_}

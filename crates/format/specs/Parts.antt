@@ -1,0 +1,44 @@
+-- The bytes of one document whose sizes are known: as many as they say, and each number in its range.
+use mathlib.Core.Path.{_≡_}
+use mathlib.Core.List.{List}
+use Prim.Native.Nat.{ℕ, _+_, _*_, _/_, _%_, _≤_, _<_}
+use lib.IntN.{pos}
+use lib.ListN.{length}
+use Rattle.linear.specs.Tables.{at, grid}
+use Rattle.format.specs.Blocks.{Blank}
+use Rattle.format.specs.Layouts.{design-range, set-range, sheet-range}
+use Rattle.format.specs.Numbers.{number}
+use Rattle.format.specs.Ranges.{AllIn}
+use Rattle.format.specs.Sizes.{most-numbers, most-faces, b-at, off-at, over-law-at, k-at, design-count, set-count, sheet-count}
+use Rattle.format.specs.declared.design.Law.{Law}
+use Rattle.format.specs.declared.design.Plant.{Plant}
+
+pub record DesignBytes (n : ℕ) (bytes : List ℕ) : Type 0 where
+  pub sized : (1 ≤ n) × (n ≤ most-numbers)
+  pub first : number bytes 0 ≡ pos n
+  pub whole : length bytes ≡ 8 * design-count n
+  pub ranged : AllIn (design-range n (number bytes 2)) bytes (design-count n)
+
+pub record SetBytes (n c : ℕ) (bytes : List ℕ) : Type 0 where
+  pub sized : (1 ≤ n) × (n ≤ most-numbers) × (1 ≤ c) × (c ≤ most-faces)
+  pub first : number bytes 0 ≡ pos c
+  pub whole : length bytes ≡ 8 * set-count n c
+  pub ranged : AllIn (set-range n) bytes (set-count n c)
+
+pub record SheetBytes (n c : ℕ) (bytes : List ℕ) : Type 0 where
+  pub sized : (1 ≤ n) × (n ≤ most-numbers) × (1 ≤ c) × (c ≤ most-faces)
+  pub whole : length bytes ≡ 8 * sheet-count n c
+  pub ranged : AllIn sheet-range bytes (sheet-count n c)
+
+-- the plant has the numbers of the design's bytes, and 0 past them
+pub record PlantOf (n : ℕ) (bytes : List ℕ) (p : Plant) : Type 0 where
+  pub over : number bytes 2 ≡ pos (p .over)
+  pub a : (k : ℕ) → k < n * n → grid most-numbers (p .a .cells) (k / n) (k % n) ≡ number bytes (3 + k)
+  pub b : (k : ℕ) → k < n → at (p .b .cells) k ≡ number bytes (b-at n + k)
+  pub off : (k : ℕ) → k < n → at (p .off .cells) k ≡ number bytes (off-at n + k)
+  pub blank : Blank most-numbers n n (p .a .cells) × Blank 1 n 1 (p .b .cells) × Blank 1 n 1 (p .off .cells)
+
+pub record LawOf (n : ℕ) (bytes : List ℕ) (l : Law) : Type 0 where
+  pub over-law : number bytes (over-law-at n) ≡ pos (l .«over_law»)
+  pub k : (k : ℕ) → k < n → at (l .k .cells) k ≡ number bytes (k-at n + k)
+  pub blank : Blank 1 n 1 (l .k .cells)
