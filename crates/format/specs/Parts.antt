@@ -2,8 +2,9 @@
 use mathlib.Core.Path.{_≡_}
 use mathlib.Core.List.{List}
 use Prim.Native.Nat.{ℕ, _+_, _*_, _/_, _%_, _≤_, _<_}
-use lib.IntN.{pos}
+use lib.IntN.{ℤ, pos}
 use lib.ListN.{length}
+use lib.Signed.{_≤ℤ_}
 use Rattle.linear.specs.Tables.{at, grid}
 use Rattle.format.specs.Blocks.{Blank}
 use Rattle.format.specs.Layouts.{design-range, set-range, sheet-range}
@@ -42,3 +43,17 @@ pub record LawOf (n : ℕ) (bytes : List ℕ) (l : Law) : Type 0 where
   pub over-law : number bytes (over-law-at n) ≡ pos (l .«over_law»)
   pub k : (k : ℕ) → k < n → at (l .k .cells) k ≡ number bytes (k-at n + k)
   pub blank : Blank 1 n 1 (l .k .cells)
+
+pub record RowsOf (n c : ℕ) (bytes : List ℕ) (xs : List ℤ) : Type 0 where
+  pub each : (f j : ℕ) → f < c → j < n → grid most-numbers xs f j ≡ number bytes (1 + f * (n + 1) + j)
+  pub blank : Blank most-numbers c n xs
+
+pub record TopsOf (n c : ℕ) (bytes : List ℕ) (xs : List ℤ) : Type 0 where
+  pub each : (f : ℕ) → f < c → at xs f ≡ number bytes (1 + n + f * (n + 1))
+  pub blank : Blank 1 c 1 xs
+  pub above : (f : ℕ) → pos 0 ≤ℤ at xs f
+
+pub record SharesOf (base rows c : ℕ) (bytes : List ℕ) (xs : List ℤ) : Type 0 where
+  pub each : (k : ℕ) → k < rows * c → grid most-faces xs (k / c) (k % c) ≡ number bytes (base + k)
+  pub blank : Blank most-faces rows c xs
+  pub above : (s : ℕ) → pos 0 ≤ℤ at xs s

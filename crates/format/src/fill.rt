@@ -1,16 +1,24 @@
 //! The values of documents that are known to be sound.
 ghost use mathlib.Core.Path.{_≡_};
-ghost use Rattle.format.specs.Parts.{DesignBytes, SetBytes, SheetBytes, PlantOf, LawOf};
-ghost use Rattle.format.specs.Sizes.{design-count as designCount};
+ghost use Prim.Native.Nat.{_+_, _*_, _≤_};
+ghost use Rattle.format.specs.Parts.{DesignBytes, SetBytes, SheetBytes, PlantOf, LawOf, RowsOf, TopsOf, SharesOf};
+ghost use Rattle.format.specs.Sizes.{design-count as designCount, set-count as setCount, sheet-count as sheetCount};
 ghost use Rattle.format.specs.Spelling.{Spells};
-ghost use Rattle.format.specs.Values.{design-number as designNumber};
+ghost use Rattle.format.specs.Values.{design-number as designNumber, set-number as setNumber, sheet-number as sheetNumber};
+use crate::block::read_block;
 use crate::block::read_grid;
 use crate::block::read_row;
+use crate::blocks::Block;
+use crate::certificate::Certificate;
 use crate::design::Design;
 use crate::design::Law;
 use crate::design::Plant;
+use crate::faces::Faces;
 use crate::number::number_at;
+use crate::sizes::FACES;
+use crate::sizes::FACES_BY_NUMBERS;
 use crate::sizes::NUMBERS;
+use linear::table::Table;
 
 /// The plant of a design of size `n`.
 fn fill_plant(bytes: &[u8], n: usize) -> Plant
@@ -41,7 +49,7 @@ fn fill_law(bytes: &[u8], n: usize) -> Law
 /// The design of size `n`.
 pub(crate) fn fill_design(bytes: &[u8], n: usize) -> Design
     requires { ⌜ DesignBytes n (now bytes) ⌝ }
-    ensures { λ r. ⌜ Spells (now (bytes .entry)) (designCount (r .n)) (designNumber r) ⌝ }
+    ensures { λ r. ⌜ (r .n ≡ n) × Spells (now (bytes .entry)) (designCount (r .n)) (designNumber r) ⌝ }
 {
     let noise_at = 3 + n * n + n + n + 1 + n;
     let limit = number_at(bytes, 1) as u32;
@@ -49,4 +57,61 @@ pub(crate) fn fill_design(bytes: &[u8], n: usize) -> Design
     let law = fill_law(bytes, n);
     let noise = read_row(bytes, noise_at, n);
     Design { n, limit, plant, law, noise }
+}
+
+/// The rows of a set's faces: each is followed by its top.
+fn fill_rows(bytes: &[u8], n: usize, faces: usize) -> Table<FACES_BY_NUMBERS, 100>
+    requires { ⌜ SetBytes n faces (now bytes) ⌝ }
+    ensures { λ r. ⌜ RowsOf n faces (now (bytes .entry)) (r .cells) ⌝ }
+{
+    let block = Block { base: 1, rows: faces, columns: n, pitch: n + 1, stride: NUMBERS };
+    read_block(bytes, block)
+}
+
+/// The tops of a set's faces: each follows its row.
+fn fill_tops(bytes: &[u8], n: usize, faces: usize) -> Table<FACES, 3_000_000>
+    requires { ⌜ SetBytes n faces (now bytes) ⌝ }
+    ensures { λ r. ⌜ TopsOf n faces (now (bytes .entry)) (r .cells) ⌝ }
+{
+    let block = Block { base: 1 + n, rows: faces, columns: 1, pitch: n + 1, stride: 1 };
+    read_block(bytes, block)
+}
+
+/// The set of `faces` faces over a state of size `n`.
+pub(crate) fn fill_faces(bytes: &[u8], n: usize, faces: usize) -> Faces
+    requires { ⌜ SetBytes n faces (now bytes) ⌝ }
+    ensures { λ r. ⌜ (r .n ≡ n) × (r .count ≡ faces) × Spells (now (bytes .entry)) (setCount (r .n) (r .count)) (setNumber r) ⌝ }
+{
+    let h = fill_rows(bytes, n, faces);
+    let tops = fill_tops(bytes, n, faces);
+    Faces { n, count: faces, h, tops }
+}
+
+/// `rows` rows of multipliers of the faces, from number `base` of the sheet on.
+fn fill_shares<const LEN: usize>(
+    bytes: &[u8],
+    base: usize,
+    rows: usize,
+    n: usize,
+    faces: usize,
+) -> Table<LEN, 500_000_000>
+    requires known { ⌜ SheetBytes n faces (now bytes) ⌝ }
+    requires room { ⌜ 24 * rows ≤ LEN ⌝ ∗ ⌜ 1 ≤ base ⌝ ∗ ⌜ base + rows * faces ≤ sheetCount n faces ⌝ }
+    ensures { λ r. ⌜ SharesOf base rows faces (now (bytes .entry)) (r .cells) ⌝ }
+{
+    read_grid(bytes, base, rows, faces, FACES)
+}
+
+/// The sheet for `faces` faces over a state of size `n`.
+pub(crate) fn fill_certificate(bytes: &[u8], n: usize, faces: usize) -> Certificate
+    requires { ⌜ SheetBytes n faces (now bytes) ⌝ }
+    ensures { λ r. ⌜ (r .n ≡ n) × (r .count ≡ faces) × Spells (now (bytes .entry)) (sheetCount (r .n) (r .count)) (sheetNumber r) ⌝ }
+{
+    let w_at = 1 + faces * faces;
+    let v_at = w_at + 2 * faces;
+    let scale = number_at(bytes, 0) as u32;
+    let m = fill_shares(bytes, 1, faces, n, faces);
+    let w = fill_shares(bytes, w_at, 2, n, faces);
+    let v = fill_shares(bytes, v_at, 2 * n, n, faces);
+    Certificate { n, count: faces, scale, m, w, v }
 }

@@ -1,4 +1,4 @@
-use mathlib.Core.Path.{_≡_}
+use mathlib.Core.Path.{_≡_, refl}
 use native.Mathlib.Omega.{arith}
 use borrow.Author.Differences.{ints}
 use lib.IntN.{pos, natAbs}
@@ -23,5 +23,5 @@ returns c =
     let range = c .pre .ranged 1 (omega arith) in
     let limit : number (c .args .bytes .now) 1 ≡ pos (natAbs (toZ w64 (ofZ w64 (c .number-at-limit .result)))) = omega (arith, ints, c .number-at-limit .ensures) in
     let noise = c .read-row-noise .ensures in
-    design-spells _ _ _ _ _ (c .read-row-noise .result) (c .pre) limit (c .fill-plant-plant .ensures) (c .fill-law-law .ensures)
-    (record { each = noise .each; blank = noise .blank; above = noise .above })
+    (refl, design-spells _ _ _ _ _ (c .read-row-noise .result) (c .pre) limit (c .fill-plant-plant .ensures) (c .fill-law-law .ensures)
+    (record { each = noise .each; blank = noise .blank; above = noise .above }))
