@@ -1,7 +1,14 @@
+pub mod Back
 pub mod Chains
 pub mod Designs
+pub mod Exact
+pub mod Known
 pub mod Order
+pub mod Ranged
+pub mod Same
 pub mod Sets
 pub mod Sheets
 pub mod Spelling
 pub mod Tables
+pub mod Unique
+pub mod Written

@@ -9,10 +9,10 @@ use lib.IntN.{ℤ, pos}
 use lib.ListN.{length, getD, length-append}
 use mir.Syntax.{w64}
 use mir.Val.{toZ, ofZ, SFits}
-use Rattle.std.proofs.shelf.Lists.{getD-append-left, getD-append-right}
-use Rattle.std.proofs.shelf.Signed.{toZ-ofZ}
+use Rattle.std.proofs.shelf.Lists.{getD-append-left, getD-append-right, ext-getD}
+use Rattle.std.proofs.shelf.Signed.{toZ-ofZ, ofZ-toZ}
 use Rattle.format.specs.Numbers.{number, word}
-use Rattle.format.specs.Spelling.{Spells}
+use Rattle.format.specs.Spelling.{Spells, Bytes}
 
 abbrev pub bytes-of : ℕ → List ℕ
 bytes-of x =
@@ -53,3 +53,61 @@ spells-more xs i f z s fits e = record {
       (λ k l. ap (toZ w64) (word-left xs _ (8 * k) (omega (arith, s .whole))) ∙ s .each k l)
       (ap (toZ w64) (word-right xs _ (8 * i) (s .whole) ∙ word-of (ofZ w64 z) (omega (arith, ints))) ∙ toZ-ofZ w64 z fits ∙ e);
 }
+
+-- what holds of each of eight bytes
+each-byte : (P : ℕ → Type 0) → P 0 → P 1 → P 2 → P 3 → P 4 → P 5 → P 6 → P 7 → (c : ℕ) → c < 8 → P c
+each-byte P a b c d e f g h zero l = a
+each-byte P a b c d e f g h (suc zero) l = b
+each-byte P a b c d e f g h (suc (suc zero)) l = c
+each-byte P a b c d e f g h (suc (suc (suc zero))) l = d
+each-byte P a b c d e f g h (suc (suc (suc (suc zero)))) l = e
+each-byte P a b c d e f g h (suc (suc (suc (suc (suc zero))))) l = f
+each-byte P a b c d e f g h (suc (suc (suc (suc (suc (suc zero)))))) l = g
+each-byte P a b c d e f g h (suc (suc (suc (suc (suc (suc (suc zero))))))) l = h
+each-byte P a b c d e f g h (suc (suc (suc (suc (suc (suc (suc (suc n)))))))) l = absurd (omega arith)
+
+-- a word says what each of its bytes is
+module _ (xs : List ℕ) (p : ℕ) (small : Bytes xs) where
+  byte-is : (c : ℕ) → c < 8 → getD xs (p + c) 0 ≡ word xs p / 256 ^ c % 256
+  byte-is =
+      let s0 = small p in
+      let s1 = small (p + 1) in
+      let s2 = small (p + 2) in
+      let s3 = small (p + 3) in
+      let s4 = small (p + 4) in
+      let s5 = small (p + 5) in
+      let s6 = small (p + 6) in
+      let s7 = small (p + 7) in
+      let z : p + 0 ≡ p = omega arith in
+      each-byte (λ c. getD xs (p + c) 0 ≡ word xs p / 256 ^ c % 256)
+      (rw z (omega arith)) (omega arith) (omega arith) (omega arith) (omega arith) (omega arith) (omega arith) (omega arith)
+
+  word-small : word xs p < 2 ^ 64
+  word-small =
+      let s0 = small p in
+      let s1 = small (p + 1) in
+      let s2 = small (p + 2) in
+      let s3 = small (p + 3) in
+      let s4 = small (p + 4) in
+      let s5 = small (p + 5) in
+      let s6 = small (p + 6) in
+      let s7 = small (p + 7) in
+      omega arith
+
+-- numbers say what their bytes are
+pub one-spelling : (xs ys : List ℕ) (count : ℕ) (f : ℕ → ℤ) → Bytes xs → Bytes ys → Spells xs count f → Spells ys count f → xs ≡ ys
+unfolding number
+one-spelling xs ys count f small-x small-y x y = ext-getD 0 xs ys (x .whole ∙ sym (y .whole)) same
+  where
+    same-word : (k : ℕ) → k < count → word xs (8 * k) ≡ word ys (8 * k)
+    same-word k l =
+        sym (ofZ-toZ w64 (word xs (8 * k)) (word-small xs (8 * k) small-x))
+        ∙ ap (ofZ w64) (x .each k l ∙ sym (y .each k l))
+        ∙ ofZ-toZ w64 (word ys (8 * k)) (word-small ys (8 * k) small-y)
+
+    same : (i : ℕ) → i < length xs → getD xs i 0 ≡ getD ys i 0
+    same i l =
+        let k : i / 8 < count = omega (arith, x .whole) in
+        let c : i % 8 < 8 = omega arith in
+        let e : 8 * (i / 8) + i % 8 ≡ i = omega arith in
+        rw e at (byte-is xs (8 * (i / 8)) small-x (i % 8) c ∙ ap (λ w. w / 256 ^ (i % 8) % 256) (same-word (i / 8) k) ∙ sym (byte-is ys (8 * (i / 8)) small-y (i % 8) c))

@@ -5,6 +5,7 @@ pub mod Parts
 pub mod Ranges
 pub mod Reading
 pub mod Refusals
+pub mod RoundTrip
 pub mod Sizes
 pub mod Slots
 pub mod Spelling

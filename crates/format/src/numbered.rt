@@ -10,20 +10,25 @@ use std::alloc::Global;
 
 /// What has a document, by the numbers of that.
 pub(crate) trait Numbered {
+    ghost counts: { Self → ℕ };
+
     ghost numbers: { Self → ℕ → ℤ };
+
+    fn count(&self) -> usize
+        ensures value { λ r. ⌜ r ≡ counts (now (self .entry)) ⌝ }
+        ensures bound { λ r. ⌜ r < 2 ^ 32 ⌝ };
 
     fn number(&self, i: usize) -> i64
         requires { ⌜ i < 2 ^ 32 ⌝ }
         ensures { λ r. ⌜ r ≡ numbers (now (self .entry)) i ⌝ };
 }
 
-/// The bytes of the first `count` numbers of a document.
-pub(crate) fn write<D: Numbered>(document: &D, count: usize, heap: Global) -> Result<Vec<u8>, AllocError>
-    requires { ⌜ count < 2 ^ 32 ⌝ }
-    ensures { λ r. ⌜ made r (λ v. Spells (vec-items v) count (numbers (now (document .entry)))) ⌝ }
+/// The bytes of a document.
+pub(crate) fn write<D: Numbered>(document: &D, heap: Global) -> Result<Vec<u8>, AllocError>
+    ensures { λ r. ⌜ made r (λ v. Spells (vec-items v) (counts (now (document .entry))) (numbers (now (document .entry)))) ⌝ }
 {
     let mut bytes = Vec::new(heap);
-    for i in 0..count {
+    for i in 0..document.count() {
         bytes.extend_from_slice(&document.number(i).to_le_bytes())?;
     }
     Ok(bytes)

@@ -3,11 +3,15 @@ ghost use mathlib.Core.Path.{_≡_};
 ghost use Prim.Native.Nat.{ℕ, _+_, _*_, _/_, _%_, _^_, _≤_, _<_};
 ghost use lib.IntN.{ℤ};
 ghost use Rattle.linear.specs.Tables.{grid as gridOf};
+ghost use Rattle.format.specs.Sizes.{design-count as designCount, set-count as setCount, sheet-count as sheetCount};
 ghost use Rattle.format.specs.Values.{law-number as lawNumber, design-number as designNumber, set-number as setNumber, sheet-number as sheetNumber};
 use crate::certificate::Certificate;
 use crate::design::Design;
 use crate::numbered::Numbered;
 use crate::faces::Faces;
+use crate::faults::design_count;
+use crate::faults::set_count;
+use crate::faults::sheet_count;
 use crate::sizes::FACES;
 use crate::sizes::NUMBERS;
 use linear::table::Table;
@@ -26,7 +30,13 @@ fn counted<const LEN: usize, const BOUND: u32>(
 }
 
 pub(crate) impl Numbered for Design as NumbersOfDesign {
+    ghost counts = { λ d. designCount (d .n) };
+
     ghost numbers = { λ d i. designNumber d i };
+
+    fn count(&self) -> usize {
+        design_count(self.n)
+    }
 
     fn number(&self, i: usize) -> i64 {
         let n = self.n;
@@ -68,7 +78,13 @@ fn law_number(design: &Design, i: usize) -> i64
 }
 
 pub(crate) impl Numbered for Faces as NumbersOfFaces {
+    ghost counts = { λ s. setCount (s .n) (s .count) };
+
     ghost numbers = { λ s i. setNumber s i };
+
+    fn count(&self) -> usize {
+        set_count(self.n, self.count)
+    }
 
     fn number(&self, i: usize) -> i64 {
         if i < 1 {
@@ -85,7 +101,13 @@ pub(crate) impl Numbered for Faces as NumbersOfFaces {
 }
 
 pub(crate) impl Numbered for Certificate as NumbersOfCertificate {
+    ghost counts = { λ t. sheetCount (t .n) (t .count) };
+
     ghost numbers = { λ t i. sheetNumber t i };
+
+    fn count(&self) -> usize {
+        sheet_count(self.n, self.count)
+    }
 
     fn number(&self, i: usize) -> i64 {
         let count = self.count;

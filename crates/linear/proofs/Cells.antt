@@ -1,9 +1,11 @@
 -- Cells that a loop writes one by one, and tables with equal cells.
 use mathlib.Core.Path.{_≡_, sym, ap, _∙_}
+use mathlib.Core.HLevel.{isProp→PathP}
 use mathlib.Core.Logic.{_≢_, inl, inr}
 use mathlib.Core.List.{List, [], _∷_}
 use Prim.Native.Nat.{ℕ, zero, suc, _+_, _^_, min, _≤_, _<_}
 use native.Mathlib.Omega.{arith}
+use denote.Struct.Props.{props}
 use borrow.Author.Count.{below-more}
 use borrow.Author.Differences.{ints}
 use lib.IntN.{ℤ, pos, natAbs}
@@ -14,6 +16,7 @@ use mir.Val.{toZ, ofZ, SFits}
 use Rattle.std.proofs.shelf.Lists.{getD-past}
 use Rattle.std.proofs.shelf.Tests.{cases-lt}
 use Rattle.linear.specs.Tables.{at, Within}
+use Rattle.linear.specs.declared.table.Table.{Table}
 
 pub zeros-within : (b n : ℕ) → Within b (replicate n (pos 0))
 zeros-within b zero i = omega arith
@@ -43,3 +46,11 @@ capped xs i m top l e =
       | inl p ↦ ap (at xs) (omega arith)
       | inr p ↦ getD-past xs i (pos 0) (omega arith) ∙ sym (getD-past xs m (pos 0) (omega arith))
     ]
+
+-- tables with equal cells are equal, whatever shows their bounds
+pub same-table : (l b : ℕ) (x y : Table l b) → x .cells ≡ y .cells → x ≡ y
+same-table l b x y e = λ i. record {
+  cells = e i;
+  sized = isProp→PathP (λ j. length (e j) ≡ l) (λ j. search props) (x .sized) (y .sized) i;
+  within = isProp→PathP (λ j. Within b (e j)) (λ j. search props) (x .within) (y .within) i;
+}

@@ -1,0 +1,58 @@
+-- What sound documents say of each of them, once their sizes are known.
+use mathlib.Core.Path.{_≡_, sym, subst}
+use mathlib.Core.List.{List}
+use Prim.Native.Nat.{ℕ, _*_, _≤_}
+use native.Mathlib.Omega.{arith}
+use borrow.Author.Differences.{ints}
+use lib.IntN.{ℤ, pos, natAbs}
+use lib.ListN.{length}
+use Rattle.std.proofs.shelf.Ways.{tells}
+use Rattle.std.specs.Options.{mapped, valueOr}
+use Rattle.std.specs.declared.option.Option.{Option}
+use Rattle.std.specs.declared.option.Option.the-variants.{Some, None}
+use Rattle.format.specs.Layouts.{design-range, set-range, sheet-range}
+use Rattle.format.specs.Numbers.{number}
+use Rattle.format.specs.Parts.{DesignBytes, SetBytes, SheetBytes}
+use Rattle.format.specs.Ranges.{AllIn}
+use Rattle.format.specs.Reading.{size, both, claim-given}
+use Rattle.format.specs.Refusals.{Sound, Fits, asked}
+use Rattle.format.specs.Sizes.{design-count, set-count, sheet-count}
+use Rattle.format.specs.declared.refusal.Document.the-variants.{Design, Set, Sheet}
+
+-- what a size that is told says
+pub size-told : (most : ℕ) (bytes : List ℕ) (n : ℕ) → size most bytes ≡ Some n → (1 ≤ n) × (n ≤ most) × (number bytes 0 ≡ pos n)
+size-told most bytes n e = (grind (arith, ints, tells), grind (arith, ints, tells), grind (arith, ints, tells))
+
+module _ (design set sheet : List ℕ) (n c : ℕ) (of-n : size 6 design ≡ Some n) (of-c : size 24 set ≡ Some c) (sound : Sound (claim-given design set sheet)) where
+  pub design-known : DesignBytes n design
+  design-known =
+      let told = size-told 6 design n of-n in
+      let Whole : Option ℕ → Type 0 = λ o. Fits (mapped design-count o) design in
+      let Ranged : Option ℕ → Type 0 = λ o. AllIn (design-range (valueOr o 0) (number design 2)) design (asked (mapped design-count o)) in
+      record {
+        sized = (told .0, told .1);
+        first = told .2;
+        whole = subst Whole of-n (sound .whole Design);
+        ranged = subst Ranged of-n (sound .ranged Design);
+      }
+
+  pub set-known : SetBytes n c set
+  set-known =
+      let n-told = size-told 6 design n of-n in
+      let c-told = size-told 24 set c of-c in
+      record {
+        sized = (n-told .0, n-told .1, c-told .0, c-told .1);
+        first = c-told .2;
+        whole = simp (of-n, of-c) at (sound .whole Set);
+        ranged = simp (of-n, of-c) at (sound .ranged Set);
+      }
+
+  pub sheet-known : SheetBytes n c sheet
+  sheet-known =
+      let n-told = size-told 6 design n of-n in
+      let c-told = size-told 24 set c of-c in
+      record {
+        sized = (n-told .0, n-told .1, c-told .0, c-told .1);
+        whole = simp (of-n, of-c) at (sound .whole Sheet);
+        ranged = simp (of-n, of-c) at (sound .ranged Sheet);
+      }

@@ -1,0 +1,27 @@
+//! Reading a design, a set and a sheet that are given together.
+ghost use mathlib.Core.Path.{_≡_};
+ghost use Rattle.std.specs.Results.{Cases};
+ghost use Rattle.format.specs.Reading.{claim-given as given, Holds};
+ghost use Rattle.format.specs.Refusals.{Exact, Sound, Refused};
+use crate::claim::Claim;
+use crate::fill::fill_certificate;
+use crate::fill::fill_design;
+use crate::fill::fill_faces;
+use crate::refusal::Refusal;
+use crate::sound::check;
+
+/// The claim that the documents make, or their first fault.
+pub fn read_claim(design: &[u8], set: &[u8], sheet: &[u8]) -> Result<Claim, Refusal>
+    ensures { λ r. ⌜ Cases r (λ c. Sound (given (now (design .entry)) (now (set .entry)) (now (sheet .entry))) × Holds (now (design .entry)) (now (set .entry)) (now (sheet .entry)) c) (Refused (given (now (design .entry)) (now (set .entry)) (now (sheet .entry)))) ⌝ }
+{
+    let sizes = check(design, set, sheet)?;
+    let design = fill_design(design, sizes.n);
+    let faces = fill_faces(set, sizes.n, sizes.faces);
+    let certificate = fill_certificate(sheet, sizes.n, sizes.faces);
+    Ok(Claim { design, faces, certificate })
+}
+
+/// Documents have one first fault at most, and sound ones have none: so that `read_claim` names the only one.
+pub fn reading_is_exact()
+    ensures { λ _. ⌜ Exact ⌝ }
+{}
