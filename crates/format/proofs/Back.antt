@@ -9,8 +9,8 @@ use Rattle.std.proofs.shelf.Bits.{div-mul-add, mod-mul-add, mul-add-lt}
 use Rattle.std.proofs.shelf.Ways.{tells}
 use Rattle.linear.specs.Tables.{at, grid}
 use Rattle.format.specs.Numbers.{number}
-use Rattle.format.specs.Parts.{PlantOf, LawOf, RowsOf, TopsOf, SharesOf}
-use Rattle.format.specs.Sizes.{b-at, off-at, over-law-at, k-at, noise-at, w-at, v-at, design-count, set-count, sheet-count}
+use Rattle.format.specs.Parts.{PlantOf, LawOf, RowsOf, TopsOf, MultipliersOf}
+use Rattle.format.specs.Sizes.{most-numbers, most-faces, b-at, off-at, over-law-at, k-at, noise-at, w-at, v-at, design-count, set-count, sheet-count}
 use Rattle.format.specs.Spelling.{Spells}
 use Rattle.format.specs.Values.{design-number, set-number, sheet-number}
 use Rattle.format.specs.declared.certificate.Certificate.{Certificate}
@@ -19,7 +19,7 @@ use Rattle.format.specs.declared.faces.Faces.{Faces}
 use Rattle.format.proofs.Chains.{after-base}
 
 module _ (bytes : List ℕ) (d : Design) (s : Spells bytes (design-count (d .n)) (design-number d)) where
-  a-number : (k : ℕ) → k < d .n * d .n → design-number d (3 + k) ≡ grid 6 (d .plant .a .cells) ((3 + k - 3) / d .n) ((3 + k - 3) % d .n)
+  a-number : (k : ℕ) → k < d .n * d .n → design-number d (3 + k) ≡ grid most-numbers (d .plant .a .cells) ((3 + k - 3) / d .n) ((3 + k - 3) % d .n)
   a-number k l = grind (arith, tells)
 
   b-number : (k : ℕ) → k < d .n → design-number d (b-at (d .n) + k) ≡ at (d .plant .b .cells) (b-at (d .n) + k - b-at (d .n))
@@ -40,7 +40,7 @@ module _ (bytes : List ℕ) (d : Design) (s : Spells bytes (design-count (d .n))
   pub plant-of : PlantOf (d .n) bytes (d .plant)
   plant-of = record {
     over = s .each 2 (omega arith);
-    a = λ k l. sym (s .each (3 + k) (omega arith) ∙ a-number k l ∙ after-base (λ i. grid 6 (d .plant .a .cells) (i / d .n) (i % d .n)) 3 k);
+    a = λ k l. sym (s .each (3 + k) (omega arith) ∙ a-number k l ∙ after-base (λ i. grid most-numbers (d .plant .a .cells) (i / d .n) (i % d .n)) 3 k);
     b = λ k l. sym (s .each (b-at (d .n) + k) (omega arith) ∙ b-number k l ∙ after-base (at (d .plant .b .cells)) (b-at (d .n)) k);
     off = λ k l. sym (s .each (off-at (d .n) + k) (omega arith) ∙ off-number k l ∙ after-base (at (d .plant .off .cells)) (off-at (d .n)) k);
     blank = (d .blank .0, d .blank .1, d .blank .2);
@@ -67,7 +67,7 @@ module _ (bytes : List ℕ) (t : Faces) (s : Spells bytes (set-count (t .n) (t .
   place-is : (f j : ℕ) → j < t .n + 1 → (1 + f * (t .n + 1) + j - 1 ≡ f * (t .n + 1) + j) × ((f * (t .n + 1) + j) / (t .n + 1) ≡ f) × ((f * (t .n + 1) + j) % (t .n + 1) ≡ j)
   place-is f j l = (omega arith, div-mul-add f (t .n + 1) j l, mod-mul-add f (t .n + 1) j l)
 
-  row-number : (f j : ℕ) → j < t .n → set-number t (1 + f * (t .n + 1) + j) ≡ grid 6 (t .h .cells) f j
+  row-number : (f j : ℕ) → j < t .n → set-number t (1 + f * (t .n + 1) + j) ≡ grid most-numbers (t .h .cells) f j
   row-number f j l = let p = place-is f j (omega arith) in rw (p .0, p .1, p .2) (grind (arith, tells))
 
   top-number : (f : ℕ) → set-number t (1 + f * (t .n + 1) + t .n) ≡ at (t .tops .cells) f
@@ -89,34 +89,34 @@ module _ (bytes : List ℕ) (t : Faces) (s : Spells bytes (set-count (t .n) (t .
   }
 
 module _ (bytes : List ℕ) (t : Certificate) (s : Spells bytes (sheet-count (t .n) (t .count)) (sheet-number t)) where
-  m-number : (k : ℕ) → k < t .count * t .count → sheet-number t (1 + k) ≡ grid 24 (t .m .cells) ((1 + k - 1) / t .count) ((1 + k - 1) % t .count)
+  m-number : (k : ℕ) → k < t .count * t .count → sheet-number t (1 + k) ≡ grid most-faces (t .m .cells) ((1 + k - 1) / t .count) ((1 + k - 1) % t .count)
   m-number k l = grind (arith, tells)
 
   w-number : (k : ℕ) → k < 2 * t .count →
-      sheet-number t (w-at (t .count) + k) ≡ grid 24 (t .w .cells) ((w-at (t .count) + k - w-at (t .count)) / t .count) ((w-at (t .count) + k - w-at (t .count)) % t .count)
+      sheet-number t (w-at (t .count) + k) ≡ grid most-faces (t .w .cells) ((w-at (t .count) + k - w-at (t .count)) / t .count) ((w-at (t .count) + k - w-at (t .count)) % t .count)
   w-number k l = grind (arith, tells)
 
   v-number : (k : ℕ) →
-      sheet-number t (v-at (t .count) + k) ≡ grid 24 (t .v .cells) ((v-at (t .count) + k - v-at (t .count)) / t .count) ((v-at (t .count) + k - v-at (t .count)) % t .count)
+      sheet-number t (v-at (t .count) + k) ≡ grid most-faces (t .v .cells) ((v-at (t .count) + k - v-at (t .count)) / t .count) ((v-at (t .count) + k - v-at (t .count)) % t .count)
   v-number k = grind (arith, tells)
 
-  pub m-back : SharesOf 1 (t .count) (t .count) bytes (t .m .cells)
+  pub m-back : MultipliersOf 1 (t .count) (t .count) bytes (t .m .cells)
   m-back = record {
-    each = λ k l. sym (s .each (1 + k) (omega arith) ∙ m-number k l ∙ after-base (λ i. grid 24 (t .m .cells) (i / t .count) (i % t .count)) 1 k);
+    each = λ k l. sym (s .each (1 + k) (omega arith) ∙ m-number k l ∙ after-base (λ i. grid most-faces (t .m .cells) (i / t .count) (i % t .count)) 1 k);
     blank = t .blank .0;
     above = λ i. t .above i .0;
   }
 
-  pub w-back : SharesOf (w-at (t .count)) 2 (t .count) bytes (t .w .cells)
+  pub w-back : MultipliersOf (w-at (t .count)) 2 (t .count) bytes (t .w .cells)
   w-back = record {
-    each = λ k l. sym (s .each (w-at (t .count) + k) (omega arith) ∙ w-number k l ∙ after-base (λ i. grid 24 (t .w .cells) (i / t .count) (i % t .count)) (w-at (t .count)) k);
+    each = λ k l. sym (s .each (w-at (t .count) + k) (omega arith) ∙ w-number k l ∙ after-base (λ i. grid most-faces (t .w .cells) (i / t .count) (i % t .count)) (w-at (t .count)) k);
     blank = t .blank .1;
     above = λ i. t .above i .1;
   }
 
-  pub v-back : SharesOf (v-at (t .count)) (2 * t .n) (t .count) bytes (t .v .cells)
+  pub v-back : MultipliersOf (v-at (t .count)) (2 * t .n) (t .count) bytes (t .v .cells)
   v-back = record {
-    each = λ k l. sym (s .each (v-at (t .count) + k) (omega arith) ∙ v-number k ∙ after-base (λ i. grid 24 (t .v .cells) (i / t .count) (i % t .count)) (v-at (t .count)) k);
+    each = λ k l. sym (s .each (v-at (t .count) + k) (omega arith) ∙ v-number k ∙ after-base (λ i. grid most-faces (t .v .cells) (i / t .count) (i % t .count)) (v-at (t .count)) k);
     blank = t .blank .2;
     above = λ i. t .above i .2;
   }

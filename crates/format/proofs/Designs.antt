@@ -14,7 +14,7 @@ use Rattle.format.specs.Layouts.{design-range}
 use Rattle.format.specs.Numbers.{number}
 use Rattle.format.specs.Parts.{DesignBytes, PlantOf, LawOf}
 use Rattle.format.specs.Ranges.{In, from-to}
-use Rattle.format.specs.Sizes.{b-at, off-at, over-law-at, k-at, noise-at, design-count}
+use Rattle.format.specs.Sizes.{most-numbers, b-at, off-at, over-law-at, k-at, noise-at, design-count}
 use Rattle.format.specs.Spelling.{Spells}
 use Rattle.format.specs.Values.{law-number, design-number}
 use Rattle.format.specs.declared.design.Design.{Design}
@@ -48,7 +48,7 @@ pub record NoiseOf (n : ℕ) (bytes : List ℕ) (xs : List ℤ) : Type 0 where
   pub blank : Blank 1 n 1 xs
   pub above : ((k : ℕ) → k < n → pos 0 ≤ℤ number bytes (noise-at n + k)) → (s : ℕ) → pos 0 ≤ℤ at xs s
 
-module _ (bytes : List ℕ) (n limit : ℕ) (plant : Plant) (law : Law) (noise : Table 6 1000) (known : DesignBytes n bytes) (limit-is : number bytes 1 ≡ pos limit) (plant-is : PlantOf n bytes plant) (law-is : LawOf n bytes law) (noise-is : NoiseOf n bytes (noise .cells)) where
+module _ (bytes : List ℕ) (n limit : ℕ) (plant : Plant) (law : Law) (noise : Table most-numbers 1000) (known : DesignBytes n bytes) (limit-is : number bytes 1 ≡ pos limit) (plant-is : PlantOf n bytes plant) (law-is : LawOf n bytes law) (noise-is : NoiseOf n bytes (noise .cells)) where
   -- the design of these parts
   abbrev pub whole-design : Design
   whole-design = record {

@@ -1,11 +1,13 @@
 -- What sound documents say of each of them, once their sizes are known.
-use mathlib.Core.Path.{_≡_, sym, subst}
+use mathlib.Core.Path.{_≡_, subst, _∙_}
 use mathlib.Core.List.{List}
 use Prim.Native.Nat.{ℕ, _*_, _≤_}
 use native.Mathlib.Omega.{arith}
 use borrow.Author.Differences.{ints}
 use lib.IntN.{ℤ, pos, natAbs}
-use lib.ListN.{length}
+use mir.Syntax.{w64}
+use mir.Val.{SFits, toZ, ofZ}
+use Rattle.std.proofs.shelf.Signed.{toZ-ofZ}
 use Rattle.std.proofs.shelf.Ways.{tells}
 use Rattle.std.specs.Options.{mapped, valueOr}
 use Rattle.std.specs.declared.option.Option.{Option}
@@ -16,17 +18,18 @@ use Rattle.format.specs.Parts.{DesignBytes, SetBytes, SheetBytes}
 use Rattle.format.specs.Ranges.{AllIn}
 use Rattle.format.specs.Reading.{size, both, claim-given}
 use Rattle.format.specs.Refusals.{Sound, Fits, asked}
-use Rattle.format.specs.Sizes.{design-count, set-count, sheet-count}
+use Rattle.format.specs.Sizes.{most-numbers, most-faces, design-count, set-count, sheet-count}
+use Rattle.format.specs.declared.range.Range.{Range}
 use Rattle.format.specs.declared.refusal.Document.the-variants.{Design, Set, Sheet}
 
 -- what a size that is told says
 pub size-told : (most : ℕ) (bytes : List ℕ) (n : ℕ) → size most bytes ≡ Some n → (1 ≤ n) × (n ≤ most) × (number bytes 0 ≡ pos n)
 size-told most bytes n e = (grind (arith, ints, tells), grind (arith, ints, tells), grind (arith, ints, tells))
 
-module _ (design set sheet : List ℕ) (n c : ℕ) (of-n : size 6 design ≡ Some n) (of-c : size 24 set ≡ Some c) (sound : Sound (claim-given design set sheet)) where
+module _ (design set sheet : List ℕ) (n c : ℕ) (of-n : size most-numbers design ≡ Some n) (of-c : size most-faces set ≡ Some c) (sound : Sound (claim-given design set sheet)) where
   pub design-known : DesignBytes n design
   design-known =
-      let told = size-told 6 design n of-n in
+      let told = size-told most-numbers design n of-n in
       let Whole : Option ℕ → Type 0 = λ o. Fits (mapped design-count o) design in
       let Ranged : Option ℕ → Type 0 = λ o. AllIn (design-range (valueOr o 0) (number design 2)) design (asked (mapped design-count o)) in
       record {
@@ -38,8 +41,8 @@ module _ (design set sheet : List ℕ) (n c : ℕ) (of-n : size 6 design ≡ Som
 
   pub set-known : SetBytes n c set
   set-known =
-      let n-told = size-told 6 design n of-n in
-      let c-told = size-told 24 set c of-c in
+      let n-told = size-told most-numbers design n of-n in
+      let c-told = size-told most-faces set c of-c in
       record {
         sized = (n-told .0, n-told .1, c-told .0, c-told .1);
         first = c-told .2;
@@ -49,10 +52,17 @@ module _ (design set sheet : List ℕ) (n c : ℕ) (of-n : size 6 design ≡ Som
 
   pub sheet-known : SheetBytes n c sheet
   sheet-known =
-      let n-told = size-told 6 design n of-n in
-      let c-told = size-told 24 set c of-c in
+      let n-told = size-told most-numbers design n of-n in
+      let c-told = size-told most-faces set c of-c in
       record {
         sized = (n-told .0, n-told .1, c-told .0, c-told .1);
         whole = simp (of-n, of-c) at (sound .whole Sheet);
         ranged = simp (of-n, of-c) at (sound .ranged Sheet);
       }
+
+-- what was found with a design's own size and denominator, as it is said of the design as it was given
+pub design-told : (P : (ℕ → Range) → ℕ → Type 0) (design : List ℕ) (n count : ℕ) (x : ℤ) → size most-numbers design ≡ Some n → count ≡ design-count n → SFits w64 x → x ≡ number design 2 →
+    P (design-range n (toZ w64 (ofZ w64 x))) count → P (design-range (valueOr (size most-numbers design) 0) (number design 2)) (asked (mapped design-count (size most-numbers design)))
+design-told P design n count x of-n of-count fits over found =
+    let e : toZ w64 (ofZ w64 x) ≡ number design 2 = toZ-ofZ w64 x fits ∙ over in
+    rw of-n (rw (e, of-count) at found)

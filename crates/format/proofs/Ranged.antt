@@ -10,7 +10,7 @@ use Rattle.linear.specs.Tables.{at}
 use Rattle.linear.specs.declared.table.Table.{Table}
 use Rattle.format.specs.Layouts.{design-range, set-range, sheet-range}
 use Rattle.format.specs.Ranges.{In, from-to}
-use Rattle.format.specs.Sizes.{b-at, off-at, over-law-at, k-at, noise-at, w-at, v-at, design-count}
+use Rattle.format.specs.Sizes.{most-numbers, most-faces, b-at, off-at, over-law-at, k-at, noise-at, w-at, v-at, design-count}
 use Rattle.format.specs.Values.{law-number, design-number, set-number, sheet-number}
 use Rattle.format.specs.declared.certificate.Certificate.{Certificate}
 use Rattle.format.specs.declared.design.Design.{Design}
@@ -28,7 +28,7 @@ natural-in x a b h = (omega (arith, ints), omega (arith, ints))
 
 pub design-ranged : (d : Design) (i : ℕ) → i < design-count (d .n) → In (design-range (d .n) (pos (d .plant .over)) i) (design-number d i)
 design-ranged d i l =
-    in-part In i 1 _ _ _ _ (λ q. natural-in (d .n) 1 6 (d .sized)) (λ p.
+    in-part In i 1 _ _ _ _ (λ q. natural-in (d .n) 1 most-numbers (d .sized)) (λ p.
     in-part In i 2 _ _ _ _ (λ q. natural-in (d .limit) 1 30000 (d .limited)) (λ p.
     in-part In i 3 _ _ _ _ (λ q. natural-in (d .plant .over) 1 1000 (d .plant .ranged)) (λ p.
     in-parts In i (b-at (d .n)) (off-at (d .n)) _ _ _ _ _ (omega arith) (λ q. size-in _ (d .plant .a .within _)) (λ p q. size-in _ (d .plant .b .within _)) (λ p.
@@ -45,7 +45,7 @@ design-ranged d i l =
 
 pub set-ranged : (s : Faces) (i : ℕ) → In (set-range (s .n) i) (set-number s i)
 set-ranged s i =
-    in-part In i 1 _ _ _ _ (λ q. natural-in (s .count) 1 24 (s .sized .2, s .sized .3)) (λ p.
+    in-part In i 1 _ _ _ _ (λ q. natural-in (s .count) 1 most-faces (s .sized .2, s .sized .3)) (λ p.
     in-part In _ (s .n) _ _ _ _ (λ q. row-in _ (s .h .within _)) (λ q. above-in _ 3000000 (s .above _) (s .tops .within _)))
   where
     row-in : (x : ℤ) → natAbs x ≤ 100 → In (from-to (negsuc 99) (pos 100)) x

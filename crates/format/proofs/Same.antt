@@ -6,6 +6,7 @@ use denote.Struct.Props.{props}
 use lib.IntN.{ℤ, pos, _*ℤ_}
 use lib.Signed.{_≤ℤ_}
 use Rattle.linear.specs.Tables.{at}
+use Rattle.format.specs.Sizes.{most-numbers, most-faces}
 use Rattle.format.specs.Blocks.{Blank}
 use Rattle.format.specs.declared.certificate.Certificate.{Certificate}
 use Rattle.format.specs.declared.claim.Claim.{Claim}
@@ -37,11 +38,11 @@ same-design d e n limit plant law noise = λ i. record {
   plant = plant i;
   law = law i;
   noise = noise i;
-  sized = isProp→PathP (λ j. (1 ≤ n j) × (n j ≤ 6)) (λ j. search props) (d .sized) (e .sized) i;
+  sized = isProp→PathP (λ j. (1 ≤ n j) × (n j ≤ most-numbers)) (λ j. search props) (d .sized) (e .sized) i;
   limited = isProp→PathP (λ j. (1 ≤ limit j) × (limit j ≤ 30000)) (λ j. search props) (d .limited) (e .limited) i;
   halved = isProp→PathP (λ j. (k : ℕ) → k < n j → pos (plant j .over) ≤ℤ (pos 2 *ℤ at (plant j .off .cells) k)) (λ j. search props) (d .halved) (e .halved) i;
   quiet = isProp→PathP (λ j. (k : ℕ) → pos 0 ≤ℤ at (noise j .cells) k) (λ j. search props) (d .quiet) (e .quiet) i;
-  blank = isProp→PathP (λ j. Blank 6 (n j) (n j) (plant j .a .cells) × Blank 1 (n j) 1 (plant j .b .cells) × Blank 1 (n j) 1 (plant j .off .cells) × Blank 1 (n j) 1 (law j .k .cells) × Blank 1 (n j) 1 (noise j .cells))
+  blank = isProp→PathP (λ j. Blank most-numbers (n j) (n j) (plant j .a .cells) × Blank 1 (n j) 1 (plant j .b .cells) × Blank 1 (n j) 1 (plant j .off .cells) × Blank 1 (n j) 1 (law j .k .cells) × Blank 1 (n j) 1 (noise j .cells))
       (λ j. search props) (d .blank) (e .blank) i;
 }
 
@@ -51,9 +52,9 @@ same-faces s t n count h tops = λ i. record {
   count = count i;
   h = h i;
   tops = tops i;
-  sized = isProp→PathP (λ j. (1 ≤ n j) × (n j ≤ 6) × (1 ≤ count j) × (count j ≤ 24)) (λ j. search props) (s .sized) (t .sized) i;
+  sized = isProp→PathP (λ j. (1 ≤ n j) × (n j ≤ most-numbers) × (1 ≤ count j) × (count j ≤ most-faces)) (λ j. search props) (s .sized) (t .sized) i;
   above = isProp→PathP (λ j. (f : ℕ) → pos 0 ≤ℤ at (tops j .cells) f) (λ j. search props) (s .above) (t .above) i;
-  blank = isProp→PathP (λ j. Blank 6 (count j) (n j) (h j .cells) × Blank 1 (count j) 1 (tops j .cells)) (λ j. search props) (s .blank) (t .blank) i;
+  blank = isProp→PathP (λ j. Blank most-numbers (count j) (n j) (h j .cells) × Blank 1 (count j) 1 (tops j .cells)) (λ j. search props) (s .blank) (t .blank) i;
 }
 
 pub same-certificate : (s t : Certificate) → s .n ≡ t .n → s .count ≡ t .count → s .scale ≡ t .scale → s .m ≡ t .m → s .w ≡ t .w → s .v ≡ t .v → s ≡ t
@@ -64,10 +65,10 @@ same-certificate s t n count scale m w v = λ i. record {
   m = m i;
   w = w i;
   v = v i;
-  sized = isProp→PathP (λ j. (1 ≤ n j) × (n j ≤ 6) × (1 ≤ count j) × (count j ≤ 24)) (λ j. search props) (s .sized) (t .sized) i;
+  sized = isProp→PathP (λ j. (1 ≤ n j) × (n j ≤ most-numbers) × (1 ≤ count j) × (count j ≤ most-faces)) (λ j. search props) (s .sized) (t .sized) i;
   scaled = isProp→PathP (λ j. (1 ≤ scale j) × (scale j ≤ 100)) (λ j. search props) (s .scaled) (t .scaled) i;
   above = isProp→PathP (λ j. (k : ℕ) → (pos 0 ≤ℤ at (m j .cells) k) × (pos 0 ≤ℤ at (w j .cells) k) × (pos 0 ≤ℤ at (v j .cells) k)) (λ j. search props) (s .above) (t .above) i;
-  blank = isProp→PathP (λ j. Blank 24 (count j) (count j) (m j .cells) × Blank 24 2 (count j) (w j .cells) × Blank 24 (2 * n j) (count j) (v j .cells)) (λ j. search props) (s .blank) (t .blank) i;
+  blank = isProp→PathP (λ j. Blank most-faces (count j) (count j) (m j .cells) × Blank most-faces 2 (count j) (w j .cells) × Blank most-faces (2 * n j) (count j) (v j .cells)) (λ j. search props) (s .blank) (t .blank) i;
 }
 
 pub same-claim : (c d : Claim) → c .design ≡ d .design → c .faces ≡ d .faces → c .certificate ≡ d .certificate → c ≡ d

@@ -15,7 +15,7 @@ use Rattle.format.specs.Layouts.{set-range}
 use Rattle.format.specs.Numbers.{number}
 use Rattle.format.specs.Parts.{SetBytes, RowsOf, TopsOf}
 use Rattle.format.specs.Ranges.{In, from-to}
-use Rattle.format.specs.Sizes.{set-count}
+use Rattle.format.specs.Sizes.{most-numbers, most-faces, set-count}
 use Rattle.format.specs.Slots.{Each, Present, Small, Above, slot}
 use Rattle.format.specs.Spelling.{Spells}
 use Rattle.format.specs.Values.{set-number}
@@ -48,7 +48,7 @@ module _ (bytes : List ℕ) (n c : ℕ) (known : SetBytes n c bytes) where
       rw (s, m) (grind (arith, tells))
 
   abbrev pub row-block : Block
-  row-block = record { base = 1; rows = c; columns = n; pitch = n + 1; stride = 6; apart = omega arith }
+  row-block = record { base = 1; rows = c; columns = n; pitch = n + 1; stride = most-numbers; apart = omega arith }
 
   abbrev pub top-block : Block
   top-block = record { base = 1 + n; rows = c; columns = 1; pitch = n + 1; stride = 1; apart = omega arith }
@@ -78,17 +78,17 @@ module _ (bytes : List ℕ) (n c : ℕ) (known : SetBytes n c bytes) where
   pub tops-small : Each top-block (Small 3000000 bytes)
   tops-small f j p q = let h = top-in f j p q in omega (arith, ints)
 
-  pub rows-of : (xs : List ℤ) → length xs ≡ 144 → ((s : ℕ) → s < 144 → at xs s ≡ slot bytes row-block s) → RowsOf n c bytes xs
+  pub rows-of : (xs : List ℤ) → length xs ≡ (most-faces * most-numbers) → ((s : ℕ) → s < (most-faces * most-numbers) → at xs s ≡ slot bytes row-block s) → RowsOf n c bytes xs
   rows-of xs long holds = record {
-    each = λ f j p q. holds (6 * f + j) (omega (arith, known .sized)) ∙ slot-at bytes row-block f j (omega (arith, known .sized)) p q;
-    blank = block-blank bytes row-block 144 xs long holds;
+    each = λ f j p q. holds (most-numbers * f + j) (omega (arith, known .sized)) ∙ slot-at bytes row-block f j (omega (arith, known .sized)) p q;
+    blank = block-blank bytes row-block (most-faces * most-numbers) xs long holds;
   }
 
-  pub tops-of : (xs : List ℤ) → length xs ≡ 24 → ((s : ℕ) → s < 24 → at xs s ≡ slot bytes top-block s) → TopsOf n c bytes xs
+  pub tops-of : (xs : List ℤ) → length xs ≡ most-faces → ((s : ℕ) → s < most-faces → at xs s ≡ slot bytes top-block s) → TopsOf n c bytes xs
   tops-of xs long holds = record {
     each = λ f p. ap (at xs) (omega arith) ∙ holds (1 * f + 0) (omega (arith, known .sized)) ∙ slot-at bytes top-block f 0 (omega arith) p (omega arith) ∙ ap (number bytes) (omega arith);
-    blank = block-blank bytes top-block 24 xs long holds;
-    above = block-above bytes top-block 24 xs long holds (λ f j p q. top-in f j p q .0);
+    blank = block-blank bytes top-block most-faces xs long holds;
+    above = block-above bytes top-block most-faces xs long holds (λ f j p q. top-in f j p q .0);
   }
 
 -- a set whose parts have the numbers of the bytes has all of them

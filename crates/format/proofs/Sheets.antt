@@ -5,7 +5,7 @@ use Prim.Native.Nat.{ℕ, _+_, _-_, _*_, _≤_, _<_}
 use native.Mathlib.Omega.{arith}
 use lib.IntN.{pos}
 use Rattle.format.specs.Numbers.{number}
-use Rattle.format.specs.Parts.{SheetBytes, SharesOf}
+use Rattle.format.specs.Parts.{SheetBytes, MultipliersOf}
 use Rattle.format.specs.Sizes.{w-at, v-at, sheet-count}
 use Rattle.format.specs.Spelling.{Spells}
 use Rattle.format.specs.Values.{sheet-number}
@@ -13,8 +13,8 @@ use Rattle.format.specs.declared.certificate.Certificate.{Certificate}
 use Rattle.format.proofs.Chains.{part, from-base}
 
 -- a sheet whose parts have the numbers of the bytes has all of them
-pub sheet-spells : (bytes : List ℕ) (t : Certificate) → SheetBytes (t .n) (t .count) bytes → number bytes 0 ≡ pos (t .scale) → SharesOf 1 (t .count) (t .count) bytes (t .m .cells) →
-    SharesOf (w-at (t .count)) 2 (t .count) bytes (t .w .cells) → SharesOf (v-at (t .count)) (2 * t .n) (t .count) bytes (t .v .cells) →
+pub sheet-spells : (bytes : List ℕ) (t : Certificate) → SheetBytes (t .n) (t .count) bytes → number bytes 0 ≡ pos (t .scale) → MultipliersOf 1 (t .count) (t .count) bytes (t .m .cells) →
+    MultipliersOf (w-at (t .count)) 2 (t .count) bytes (t .w .cells) → MultipliersOf (v-at (t .count)) (2 * t .n) (t .count) bytes (t .v .cells) →
     Spells bytes (sheet-count (t .n) (t .count)) (sheet-number t)
 sheet-spells bytes t known scale m w v = record { whole = known .whole; each = each }
   where

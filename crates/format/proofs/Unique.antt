@@ -17,9 +17,9 @@ use Rattle.linear.specs.Tables.{at, grid}
 use Rattle.linear.proofs.Cells.{same-table}
 use Rattle.format.specs.Blocks.{Blank, used}
 use Rattle.format.specs.Numbers.{number}
-use Rattle.format.specs.Parts.{PlantOf, LawOf, RowsOf, TopsOf, SharesOf}
+use Rattle.format.specs.Parts.{PlantOf, LawOf, RowsOf, TopsOf, MultipliersOf}
 use Rattle.format.specs.Reading.{Holds}
-use Rattle.format.specs.Sizes.{b-at, off-at, k-at, noise-at, w-at, v-at, design-count, set-count, sheet-count}
+use Rattle.format.specs.Sizes.{most-numbers, most-faces, b-at, off-at, k-at, noise-at, w-at, v-at, design-count, set-count, sheet-count}
 use Rattle.format.specs.Spelling.{Spells}
 use Rattle.format.specs.Values.{design-number, set-number, sheet-number}
 use Rattle.format.specs.declared.certificate.Certificate.{Certificate}
@@ -65,14 +65,14 @@ same-number m n z p q = omega (arith, ints)
 one-plant : (n : ℕ) (bytes : List ℕ) (p q : Plant) → PlantOf n bytes p → PlantOf n bytes q → p ≡ q
 one-plant n bytes p q x y =
     same-plant p q (same-number _ _ _ (x .over) (y .over))
-    (same-table _ _ _ _ (same-grid 6 n n 36 _ _ (λ k. number bytes (3 + k)) (omega arith) (p .a .sized) (q .a .sized) (x .blank .0) (y .blank .0) (x .a) (y .a)))
-    (same-table _ _ _ _ (same-row n 6 _ _ (λ k. number bytes (b-at n + k)) (p .b .sized) (q .b .sized) (x .blank .1) (y .blank .1) (x .b) (y .b)))
-    (same-table _ _ _ _ (same-row n 6 _ _ (λ k. number bytes (off-at n + k)) (p .off .sized) (q .off .sized) (x .blank .2) (y .blank .2) (x .off) (y .off)))
+    (same-table _ _ _ _ (same-grid most-numbers n n _ _ _ (λ k. number bytes (3 + k)) (omega arith) (p .a .sized) (q .a .sized) (x .blank .0) (y .blank .0) (x .a) (y .a)))
+    (same-table _ _ _ _ (same-row n _ _ _ (λ k. number bytes (b-at n + k)) (p .b .sized) (q .b .sized) (x .blank .1) (y .blank .1) (x .b) (y .b)))
+    (same-table _ _ _ _ (same-row n _ _ _ (λ k. number bytes (off-at n + k)) (p .off .sized) (q .off .sized) (x .blank .2) (y .blank .2) (x .off) (y .off)))
 
 one-law : (n : ℕ) (bytes : List ℕ) (p q : Law) → LawOf n bytes p → LawOf n bytes q → p ≡ q
 one-law n bytes p q x y =
     same-law p q (same-number _ _ _ (x .over-law) (y .over-law))
-    (same-table _ _ _ _ (same-row n 6 _ _ (λ k. number bytes (k-at n + k)) (p .k .sized) (q .k .sized) (x .blank) (y .blank) (x .k) (y .k)))
+    (same-table _ _ _ _ (same-row n _ _ _ (λ k. number bytes (k-at n + k)) (p .k .sized) (q .k .sized) (x .blank) (y .blank) (x .k) (y .k)))
 
 one-design : (bytes : List ℕ) (d e : Design) → Spells bytes (design-count (d .n)) (design-number d) → Spells bytes (design-count (e .n)) (design-number e) → d ≡ e
 one-design bytes d e s t =
@@ -84,7 +84,7 @@ one-design bytes d e s t =
     same-design d e n (same-number _ _ (number bytes 1) (s .each 1 (omega arith)) (t .each 1 (omega arith)))
     (one-plant (d .n) bytes _ _ (plant-of bytes d s) (subst P (sym n) (plant-of bytes e t)))
     (one-law (d .n) bytes _ _ (law-of bytes d s) (subst L (sym n) (law-of bytes e t)))
-    (same-table _ _ _ _ (same-row (d .n) 6 _ _ (λ k. number bytes (noise-at (d .n) + k)) (d .noise .sized) (e .noise .sized) (d .blank .4) (subst B (sym n) (e .blank .4)) (noise-of bytes d s) (subst N (sym n) (noise-of bytes e t))))
+    (same-table _ _ _ _ (same-row (d .n) _ _ _ (λ k. number bytes (noise-at (d .n) + k)) (d .noise .sized) (e .noise .sized) (d .blank .4) (subst B (sym n) (e .blank .4)) (noise-of bytes d s) (subst N (sym n) (noise-of bytes e t))))
 
 one-set : (bytes : List ℕ) (s t : Faces) → s .n ≡ t .n → Spells bytes (set-count (s .n) (s .count)) (set-number s) → Spells bytes (set-count (t .n) (t .count)) (set-number t) → s ≡ t
 one-set bytes s t n x y =
@@ -94,22 +94,22 @@ one-set bytes s t n x y =
     let mine = rows-back bytes s x in
     let own = tops-back bytes s x in
     same-faces s t n c
-    (same-table _ _ _ _ (same-cells 6 (s .count) (s .n) 144 _ _ (omega arith) (s .h .sized) (t .h .sized) (mine .blank) (rows .blank) (λ f j p q. mine .each f j p q ∙ sym (rows .each f j p q))))
-    (same-table _ _ _ _ (same-row (s .count) 24 _ _ (λ f. number bytes (1 + s .n + f * (s .n + 1))) (s .tops .sized) (t .tops .sized) (own .blank) (tops .blank) (own .each) (tops .each)))
+    (same-table _ _ _ _ (same-cells most-numbers (s .count) (s .n) _ _ _ (omega arith) (s .h .sized) (t .h .sized) (mine .blank) (rows .blank) (λ f j p q. mine .each f j p q ∙ sym (rows .each f j p q))))
+    (same-table _ _ _ _ (same-row (s .count) _ _ _ (λ f. number bytes (1 + s .n + f * (s .n + 1))) (s .tops .sized) (t .tops .sized) (own .blank) (tops .blank) (own .each) (tops .each)))
 
 one-sheet : (bytes : List ℕ) (s t : Certificate) → s .n ≡ t .n → s .count ≡ t .count → Spells bytes (sheet-count (s .n) (s .count)) (sheet-number s) →
     Spells bytes (sheet-count (t .n) (t .count)) (sheet-number t) → s ≡ t
 one-sheet bytes s t n c x y =
-    let m : SharesOf 1 (s .count) (s .count) bytes (t .m .cells) = rw c (m-back bytes t y) in
-    let w : SharesOf (w-at (s .count)) 2 (s .count) bytes (t .w .cells) = rw c (w-back bytes t y) in
-    let v : SharesOf (v-at (s .count)) (2 * s .n) (s .count) bytes (t .v .cells) = rw (n, c) (v-back bytes t y) in
+    let m : MultipliersOf 1 (s .count) (s .count) bytes (t .m .cells) = rw c (m-back bytes t y) in
+    let w : MultipliersOf (w-at (s .count)) 2 (s .count) bytes (t .w .cells) = rw c (w-back bytes t y) in
+    let v : MultipliersOf (v-at (s .count)) (2 * s .n) (s .count) bytes (t .v .cells) = rw (n, c) (v-back bytes t y) in
     same-certificate s t n c (same-number _ _ (number bytes 0) (x .each 0 (omega arith)) (y .each 0 (omega arith)))
-    (same-table _ _ _ _ (one-share 576 _ _ _ _ _ (s .m .sized) (t .m .sized) (m-back bytes s x) m))
-    (same-table _ _ _ _ (one-share 48 _ _ _ _ _ (s .w .sized) (t .w .sized) (w-back bytes s x) w))
-    (same-table _ _ _ _ (one-share 288 _ _ _ _ _ (s .v .sized) (t .v .sized) (v-back bytes s x) v))
+    (same-table _ _ _ _ (one-table _ _ _ _ _ _ (s .m .sized) (t .m .sized) (m-back bytes s x) m))
+    (same-table _ _ _ _ (one-table _ _ _ _ _ _ (s .w .sized) (t .w .sized) (w-back bytes s x) w))
+    (same-table _ _ _ _ (one-table _ _ _ _ _ _ (s .v .sized) (t .v .sized) (v-back bytes s x) v))
   where
-    one-share : (len base rows c : ℕ) (xs ys : List ℤ) → length xs ≡ len → length ys ≡ len → SharesOf base rows c bytes xs → SharesOf base rows c bytes ys → xs ≡ ys
-    one-share len base rows c xs ys long-x long-y p q = same-grid 24 rows c len xs ys (λ k. number bytes (base + k)) (omega arith) long-x long-y (p .blank) (q .blank) (p .each) (q .each)
+    one-table : (len base rows c : ℕ) (xs ys : List ℤ) → length xs ≡ len → length ys ≡ len → MultipliersOf base rows c bytes xs → MultipliersOf base rows c bytes ys → xs ≡ ys
+    one-table len base rows c xs ys long-x long-y p q = same-grid most-faces rows c len xs ys (λ k. number bytes (base + k)) (omega arith) long-x long-y (p .blank) (q .blank) (p .each) (q .each)
 
 pub one-claim : (design set sheet : List ℕ) (c d : Claim) → Holds design set sheet c → Holds design set sheet d → c ≡ d
 one-claim design set sheet c d p q =

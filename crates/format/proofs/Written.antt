@@ -13,7 +13,7 @@ use Rattle.format.specs.Numbers.{number}
 use Rattle.format.specs.Ranges.{AllIn}
 use Rattle.format.specs.Reading.{Holds, size, claim-given}
 use Rattle.format.specs.Refusals.{Sound, Whole, Ranged}
-use Rattle.format.specs.Sizes.{design-count, set-count, sheet-count}
+use Rattle.format.specs.Sizes.{most-numbers, most-faces, design-count, set-count, sheet-count}
 use Rattle.format.specs.declared.claim.Claim.{Claim}
 use Rattle.format.specs.declared.refusal.Document.{Document}
 use Rattle.format.specs.declared.refusal.Document.the-variants.{Design, Set, Sheet}
@@ -24,11 +24,11 @@ size-is : (most : ℕ) (bytes : List ℕ) (n : ℕ) → 8 ≤ length bytes → n
 size-is most bytes n long first low high = rw first (grind (arith, ints, tells))
 
 module _ (design set sheet : List ℕ) (c : Claim) (h : Holds design set sheet c) where
-  n : size 6 design ≡ Some (c .design .n)
-  n = size-is 6 design _ (omega (arith, h .of-design .whole)) (h .of-design .each 0 (omega arith)) (c .design .sized .0) (c .design .sized .1)
+  n : size most-numbers design ≡ Some (c .design .n)
+  n = size-is most-numbers design _ (omega (arith, h .of-design .whole)) (h .of-design .each 0 (omega arith)) (c .design .sized .0) (c .design .sized .1)
 
-  faces : size 24 set ≡ Some (c .faces .count)
-  faces = size-is 24 set _ (omega (arith, h .of-set .whole)) (h .of-set .each 0 (omega arith)) (c .faces .sized .2) (c .faces .sized .3)
+  faces : size most-faces set ≡ Some (c .faces .count)
+  faces = size-is most-faces set _ (omega (arith, h .of-set .whole)) (h .of-set .each 0 (omega arith)) (c .faces .sized .2) (c .faces .sized .3)
 
   over : number design 2 ≡ pos (c .design .plant .over)
   over = h .of-design .each 2 (omega arith)

@@ -53,7 +53,7 @@ pub record TopsOf (n c : ℕ) (bytes : List ℕ) (xs : List ℤ) : Type 0 where
   pub blank : Blank 1 c 1 xs
   pub above : (f : ℕ) → pos 0 ≤ℤ at xs f
 
-pub record SharesOf (base rows c : ℕ) (bytes : List ℕ) (xs : List ℤ) : Type 0 where
+pub record MultipliersOf (base rows c : ℕ) (bytes : List ℕ) (xs : List ℤ) : Type 0 where
   pub each : (k : ℕ) → k < rows * c → grid most-faces xs (k / c) (k % c) ≡ number bytes (base + k)
   pub blank : Blank most-faces rows c xs
   pub above : (s : ℕ) → pos 0 ≤ℤ at xs s

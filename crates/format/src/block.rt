@@ -64,7 +64,16 @@ pub(crate) fn read_row<const LEN: usize, const BOUND: u32>(
     ensures blank { λ r. ⌜ Blank 1 count 1 (r .cells) ⌝ }
     ensures above { λ r. ⌜ (Numbers base count (Above (now (bytes .entry))) → (s : ℕ) → pos 0 ≤ℤ entryOf (r .cells) s) ⌝ }
 {
-    read_block(bytes, Block { base, rows: count, columns: 1, pitch: 1, stride: 1 })
+    read_block(
+        bytes,
+        Block {
+            base,
+            rows: count,
+            columns: 1,
+            pitch: 1,
+            stride: 1,
+        },
+    )
 }
 
 /// The table of `rows` rows of `columns` numbers from number `base` on, its rows `stride` apart.
@@ -82,5 +91,14 @@ pub(crate) fn read_grid<const LEN: usize, const BOUND: u32>(
     ensures blank { λ r. ⌜ Blank stride rows columns (r .cells) ⌝ }
     ensures above { λ r. ⌜ (Numbers base (rows * columns) (Above (now (bytes .entry))) → (s : ℕ) → pos 0 ≤ℤ entryOf (r .cells) s) ⌝ }
 {
-    read_block(bytes, Block { base, rows, columns, pitch: columns, stride })
+    read_block(
+        bytes,
+        Block {
+            base,
+            rows,
+            columns,
+            pitch: columns,
+            stride,
+        },
+    )
 }

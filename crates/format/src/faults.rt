@@ -7,15 +7,18 @@ ghost use Rattle.std.specs.Options.{Cases as BySome, mapped};
 ghost use Rattle.format.specs.Ranges.{AllIn};
 ghost use Rattle.format.specs.Refusals.{Fits, Misfit, FirstOut, asked};
 ghost use Rattle.format.specs.Reading.{both, size as sizeOf};
-ghost use Rattle.format.specs.Sizes.{design-count as designCount, set-count as setCount, sheet-count as sheetCount};
+ghost use Rattle.format.specs.Sizes.{most-numbers, most-faces, design-count as designCount, set-count as setCount, sheet-count as sheetCount};
 use crate::layout::Layout;
 use crate::layout::first_out;
 use crate::number::number_at;
 use crate::refusal::Document;
 use crate::refusal::Refusal;
+use crate::sizes::design_count;
+use crate::sizes::set_count;
+use crate::sizes::sheet_count;
 
 /// The size that the document's first number gives, where that is one from 1 to `most`.
-pub(crate) fn size(bytes: &[u8], most: u8) -> Option<usize>
+pub(crate) fn size(bytes: &[u8], most: usize) -> Option<usize>
     ensures value { λ r. ⌜ r ≡ sizeOf most (now (bytes .entry)) ⌝ }
     ensures bound { λ r. ⌜ BySome r (Unit {0}) (λ n. (1 ≤ n) × (n ≤ most)) ⌝ }
 {
@@ -23,11 +26,11 @@ pub(crate) fn size(bytes: &[u8], most: u8) -> Option<usize>
         return None;
     }
     let x = number_at(bytes, 0);
-    if 1 <= x && x <= i64::from(most) {
-        Some(x as usize)
-    } else {
-        None
+    if x < 1 {
+        return None;
     }
+    let n = x as usize;
+    if n <= most { Some(n) } else { None }
 }
 
 /// How many numbers each document has, once its sizes can be told.
@@ -38,38 +41,29 @@ pub(crate) struct Extents {
     pub sheet: Option<usize>,
 }
 
-pub(crate) fn design_count(n: usize) -> usize
-    requires { ⌜ n ≤ 6 ⌝ }
-    ensures { λ r. ⌜ r ≡ designCount n ⌝ }
-{
-    3 + n * n + n + n + 1 + n + n
-}
-
-pub(crate) fn set_count(n: usize, faces: usize) -> usize
-    requires { ⌜ n ≤ 6 ⌝ ∗ ⌜ faces ≤ 24 ⌝ }
-    ensures { λ r. ⌜ r ≡ setCount n faces ⌝ }
-{
-    1 + faces * (n + 1)
-}
-
-pub(crate) fn sheet_count(n: usize, faces: usize) -> usize
-    requires { ⌜ n ≤ 6 ⌝ ∗ ⌜ faces ≤ 24 ⌝ }
-    ensures { λ r. ⌜ r ≡ sheetCount n faces ⌝ }
-{
-    1 + faces * faces + 2 * faces + 2 * n * faces
-}
-
 impl Extents {
     pub(crate) fn of(n: Option<usize>, faces: Option<usize>) -> Extents
-        requires { ⌜ BySome n (Unit {0}) (λ n. n ≤ 6) ⌝ ∗ ⌜ BySome faces (Unit {0}) (λ c. c ≤ 24) ⌝ }
+        requires { ⌜ BySome n (Unit {0}) (λ n. n ≤ most-numbers) ⌝ ∗ ⌜ BySome faces (Unit {0}) (λ c. c ≤ most-faces) ⌝ }
         ensures of_design { λ r. ⌜ r .design ≡ mapped designCount n ⌝ }
         ensures of_set { λ r. ⌜ r .set ≡ both setCount n faces ⌝ }
         ensures of_sheet { λ r. ⌜ r .sheet ≡ both sheetCount n faces ⌝ }
     {
         match (n, faces) {
-            (None, None) => Extents { design: None, set: None, sheet: None },
-            (None, Some(_)) => Extents { design: None, set: None, sheet: None },
-            (Some(n), None) => Extents { design: Some(design_count(n)), set: None, sheet: None },
+            (None, None) => Extents {
+                design: None,
+                set: None,
+                sheet: None,
+            },
+            (None, Some(_)) => Extents {
+                design: None,
+                set: None,
+                sheet: None,
+            },
+            (Some(n), None) => Extents {
+                design: Some(design_count(n)),
+                set: None,
+                sheet: None,
+            },
             (Some(n), Some(faces)) => Extents {
                 design: Some(design_count(n)),
                 set: Some(set_count(n, faces)),
@@ -99,7 +93,12 @@ pub(crate) fn fits(document: Document, bytes: &[u8], extent: Option<usize>) -> R
 }
 
 /// That the document's numbers are in their ranges, or where the first begins that is not.
-pub(crate) fn in_range<L: Layout>(document: Document, layout: &L, bytes: &[u8], count: usize) -> Result<(), Refusal>
+pub(crate) fn in_range<L: Layout>(
+    document: Document,
+    layout: &L,
+    bytes: &[u8],
+    count: usize,
+) -> Result<(), Refusal>
     requires { ⌜ 8 * count ≤ length (now bytes) ⌝ }
     ensures { λ r. ⌜ Cases r (λ _. AllIn (ranges (now (layout .entry))) (now (bytes .entry)) count) (λ e. (place : ℕ) × (e ≡ Refusal.Range document place) × FirstOut (ranges (now (layout .entry))) (now (bytes .entry)) count place) ⌝ }
 {

@@ -1,8 +1,8 @@
 //! The values of documents that are known to be sound.
 ghost use mathlib.Core.Path.{_≡_};
 ghost use Prim.Native.Nat.{_+_, _*_, _≤_};
-ghost use Rattle.format.specs.Parts.{DesignBytes, SetBytes, SheetBytes, PlantOf, LawOf, RowsOf, TopsOf, SharesOf};
-ghost use Rattle.format.specs.Sizes.{design-count as designCount, set-count as setCount, sheet-count as sheetCount};
+ghost use Rattle.format.specs.Parts.{DesignBytes, SetBytes, SheetBytes, PlantOf, LawOf, RowsOf, TopsOf, MultipliersOf};
+ghost use Rattle.format.specs.Sizes.{most-faces, design-count as designCount, set-count as setCount, sheet-count as sheetCount};
 ghost use Rattle.format.specs.Spelling.{Spells};
 ghost use Rattle.format.specs.Values.{design-number as designNumber, set-number as setNumber, sheet-number as sheetNumber};
 use crate::block::read_block;
@@ -56,7 +56,13 @@ pub(crate) fn fill_design(bytes: &[u8], n: usize) -> Design
     let plant = fill_plant(bytes, n);
     let law = fill_law(bytes, n);
     let noise = read_row(bytes, noise_at, n);
-    Design { n, limit, plant, law, noise }
+    Design {
+        n,
+        limit,
+        plant,
+        law,
+        noise,
+    }
 }
 
 /// The rows of a set's faces: each is followed by its top.
@@ -64,7 +70,13 @@ fn fill_rows(bytes: &[u8], n: usize, faces: usize) -> Table<FACES_BY_NUMBERS, 10
     requires { ⌜ SetBytes n faces (now bytes) ⌝ }
     ensures { λ r. ⌜ RowsOf n faces (now (bytes .entry)) (r .cells) ⌝ }
 {
-    let block = Block { base: 1, rows: faces, columns: n, pitch: n + 1, stride: NUMBERS };
+    let block = Block {
+        base: 1,
+        rows: faces,
+        columns: n,
+        pitch: n + 1,
+        stride: NUMBERS,
+    };
     read_block(bytes, block)
 }
 
@@ -73,7 +85,13 @@ fn fill_tops(bytes: &[u8], n: usize, faces: usize) -> Table<FACES, 3_000_000>
     requires { ⌜ SetBytes n faces (now bytes) ⌝ }
     ensures { λ r. ⌜ TopsOf n faces (now (bytes .entry)) (r .cells) ⌝ }
 {
-    let block = Block { base: 1 + n, rows: faces, columns: 1, pitch: n + 1, stride: 1 };
+    let block = Block {
+        base: 1 + n,
+        rows: faces,
+        columns: 1,
+        pitch: n + 1,
+        stride: 1,
+    };
     read_block(bytes, block)
 }
 
@@ -84,11 +102,16 @@ pub(crate) fn fill_faces(bytes: &[u8], n: usize, faces: usize) -> Faces
 {
     let h = fill_rows(bytes, n, faces);
     let tops = fill_tops(bytes, n, faces);
-    Faces { n, count: faces, h, tops }
+    Faces {
+        n,
+        count: faces,
+        h,
+        tops,
+    }
 }
 
 /// `rows` rows of multipliers of the faces, from number `base` of the sheet on.
-fn fill_shares<const LEN: usize>(
+fn fill_multipliers<const LEN: usize>(
     bytes: &[u8],
     base: usize,
     rows: usize,
@@ -96,8 +119,8 @@ fn fill_shares<const LEN: usize>(
     faces: usize,
 ) -> Table<LEN, 500_000_000>
     requires known { ⌜ SheetBytes n faces (now bytes) ⌝ }
-    requires room { ⌜ 24 * rows ≤ LEN ⌝ ∗ ⌜ 1 ≤ base ⌝ ∗ ⌜ base + rows * faces ≤ sheetCount n faces ⌝ }
-    ensures { λ r. ⌜ SharesOf base rows faces (now (bytes .entry)) (r .cells) ⌝ }
+    requires room { ⌜ most-faces * rows ≤ LEN ⌝ ∗ ⌜ 1 ≤ base ⌝ ∗ ⌜ base + rows * faces ≤ sheetCount n faces ⌝ }
+    ensures { λ r. ⌜ MultipliersOf base rows faces (now (bytes .entry)) (r .cells) ⌝ }
 {
     read_grid(bytes, base, rows, faces, FACES)
 }
@@ -110,8 +133,15 @@ pub(crate) fn fill_certificate(bytes: &[u8], n: usize, faces: usize) -> Certific
     let w_at = 1 + faces * faces;
     let v_at = w_at + 2 * faces;
     let scale = number_at(bytes, 0) as u32;
-    let m = fill_shares(bytes, 1, faces, n, faces);
-    let w = fill_shares(bytes, w_at, 2, n, faces);
-    let v = fill_shares(bytes, v_at, 2 * n, n, faces);
-    Certificate { n, count: faces, scale, m, w, v }
+    let m = fill_multipliers(bytes, 1, faces, n, faces);
+    let w = fill_multipliers(bytes, w_at, 2, n, faces);
+    let v = fill_multipliers(bytes, v_at, 2 * n, n, faces);
+    Certificate {
+        n,
+        count: faces,
+        scale,
+        m,
+        w,
+        v,
+    }
 }

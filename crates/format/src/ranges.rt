@@ -2,6 +2,7 @@
 ghost use mathlib.Core.Path.{_≡_};
 ghost use Prim.Native.Nat.{ℕ, _+_, _*_, _/_, _≤_, _<_};
 ghost use lib.IntN.{pos, natAbs};
+ghost use Rattle.format.specs.Sizes.{most-numbers};
 ghost use Rattle.format.specs.Layouts.{design-range as designRange, set-range as setRange, sheet-range as sheetRange};
 use crate::layout::Layout;
 use crate::range::Range;
@@ -11,7 +12,7 @@ use crate::range::Range;
 pub(crate) struct DesignLayout {
     pub n: usize,
     pub over: i64,
-    ghost small: { n ≤ 6 },
+    ghost small: { n ≤ most-numbers },
 }
 
 pub(crate) impl Layout for DesignLayout as LayoutOfDesign {
@@ -26,19 +27,40 @@ pub(crate) impl Layout for DesignLayout as LayoutOfDesign {
         if i < 1 {
             Range { low: 1, high: 6 }
         } else if i < 2 {
-            Range { low: 1, high: 30_000 }
+            Range {
+                low: 1,
+                high: 30_000,
+            }
         } else if i < 3 {
-            Range { low: 1, high: 1_000 }
+            Range {
+                low: 1,
+                high: 1_000,
+            }
         } else if i < off {
-            Range { low: -2_000, high: 2_000 }
+            Range {
+                low: -2_000,
+                high: 2_000,
+            }
         } else if i < over_law {
-            Range { low: half_up(self.over), high: 1_000_000 }
+            Range {
+                low: half_up(self.over),
+                high: 1_000_000,
+            }
         } else if i < k {
-            Range { low: 1, high: 1_000 }
+            Range {
+                low: 1,
+                high: 1_000,
+            }
         } else if i < noise {
-            Range { low: -2_000, high: 2_000 }
+            Range {
+                low: -2_000,
+                high: 2_000,
+            }
         } else {
-            Range { low: 0, high: 1_000 }
+            Range {
+                low: 0,
+                high: 1_000,
+            }
         }
     }
 }
@@ -55,7 +77,7 @@ fn half_up(x: i64) -> i64
 #[derive(Clone, Copy)]
 pub(crate) struct SetLayout {
     pub n: usize,
-    ghost small: { n ≤ 6 },
+    ghost small: { n ≤ most-numbers },
 }
 
 pub(crate) impl Layout for SetLayout as LayoutOfSet {
@@ -65,9 +87,15 @@ pub(crate) impl Layout for SetLayout as LayoutOfSet {
         if i < 1 {
             Range { low: 1, high: 24 }
         } else if (i - 1) % (self.n + 1) < self.n {
-            Range { low: -100, high: 100 }
+            Range {
+                low: -100,
+                high: 100,
+            }
         } else {
-            Range { low: 0, high: 3_000_000 }
+            Range {
+                low: 0,
+                high: 3_000_000,
+            }
         }
     }
 }
@@ -83,7 +111,10 @@ pub(crate) impl Layout for SheetLayout as LayoutOfSheet {
         if i < 1 {
             Range { low: 1, high: 100 }
         } else {
-            Range { low: 0, high: 500_000_000 }
+            Range {
+                low: 0,
+                high: 500_000_000,
+            }
         }
     }
 }

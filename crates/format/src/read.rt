@@ -18,7 +18,11 @@ pub fn read_claim(design: &[u8], set: &[u8], sheet: &[u8]) -> Result<Claim, Refu
     let design = fill_design(design, sizes.n);
     let faces = fill_faces(set, sizes.n, sizes.faces);
     let certificate = fill_certificate(sheet, sizes.n, sizes.faces);
-    Ok(Claim { design, faces, certificate })
+    Ok(Claim {
+        design,
+        faces,
+        certificate,
+    })
 }
 
 /// Documents have one first fault at most, and sound ones have none: so that `read_claim` names the only one.

@@ -16,9 +16,18 @@ impl Refusal {
     {
         match self {
             Refusal::Length { .. } => 1,
-            Refusal::Range { document: Document::Design, .. } => 2,
-            Refusal::Range { document: Document::Set, .. } => 3,
-            Refusal::Range { document: Document::Sheet, .. } => 4,
+            Refusal::Range {
+                document: Document::Design,
+                ..
+            } => 2,
+            Refusal::Range {
+                document: Document::Set,
+                ..
+            } => 3,
+            Refusal::Range {
+                document: Document::Sheet,
+                ..
+            } => 4,
         }
     }
 

@@ -3,17 +3,17 @@ ghost use mathlib.Core.Path.{_≡_};
 ghost use Prim.Native.Nat.{ℕ, _+_, _*_, _/_, _%_, _^_, _≤_, _<_};
 ghost use lib.IntN.{ℤ};
 ghost use Rattle.linear.specs.Tables.{grid as gridOf};
-ghost use Rattle.format.specs.Sizes.{design-count as designCount, set-count as setCount, sheet-count as sheetCount};
+ghost use Rattle.format.specs.Sizes.{most-faces, design-count as designCount, set-count as setCount, sheet-count as sheetCount};
 ghost use Rattle.format.specs.Values.{law-number as lawNumber, design-number as designNumber, set-number as setNumber, sheet-number as sheetNumber};
 use crate::certificate::Certificate;
 use crate::design::Design;
-use crate::numbered::Numbered;
 use crate::faces::Faces;
-use crate::faults::design_count;
-use crate::faults::set_count;
-use crate::faults::sheet_count;
+use crate::numbered::Numbered;
 use crate::sizes::FACES;
 use crate::sizes::NUMBERS;
+use crate::sizes::design_count;
+use crate::sizes::set_count;
+use crate::sizes::sheet_count;
 use linear::table::Table;
 
 /// Entry `k` of a table whose rows are `stride` apart, counted over the first `columns` of each row.
@@ -23,7 +23,7 @@ fn counted<const LEN: usize, const BOUND: u32>(
     columns: usize,
     k: usize,
 ) -> i64
-    requires { ⌜ 0 < columns ⌝ ∗ ⌜ stride ≤ 24 ⌝ ∗ ⌜ k < 2 ^ 32 ⌝ }
+    requires { ⌜ 0 < columns ⌝ ∗ ⌜ stride ≤ most-faces ⌝ ∗ ⌜ k < 2 ^ 32 ⌝ }
     ensures { λ r. ⌜ r ≡ gridOf stride (now (table .entry) .cells) (k / columns) (k % columns) ⌝ }
 {
     i64::from(table.entry(stride * (k / columns) + k % columns))

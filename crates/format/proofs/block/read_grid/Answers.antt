@@ -10,11 +10,16 @@ use Rattle.format.proofs.Tables.{each-of-grid, slot-counted, block-blank, bloc
 use Rattle.format.proofs.block.read_grid.Needs as need
 
 pub read-block-requires : need.read-block-requires
-read-block-requires g c κs =
-    (search needs,
-    (c .pre .room .1 .1 .1,
-    (each-of-grid _ _ _ (Present (c .args .bytes .now)) (λ k l. omega arith),
-    each-of-grid _ _ _ (Small (g .BOUND) (c .args .bytes .now)) (c .pre .small))))
+read-block-requires g c κs = (
+  search needs,
+  (
+    c .pre .room .1 .1 .1,
+    (
+      each-of-grid _ _ _ (Present (c .args .bytes .now)) (λ k l. omega arith),
+      each-of-grid _ _ _ (Small (g .BOUND) (c .args .bytes .now)) (c .pre .small),
+    ),
+  ),
+)
 
 pub returns : need.returns
 returns g c =

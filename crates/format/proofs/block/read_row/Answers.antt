@@ -10,11 +10,16 @@ use Rattle.format.proofs.Tables.{each-of-row, slot-at, block-blank, block-abov
 use Rattle.format.proofs.block.read_row.Needs as need
 
 pub read-block-requires : need.read-block-requires
-read-block-requires g c κs =
-    (search needs,
-    (c .pre .room .1,
-    (each-of-row _ _ (Present (c .args .bytes .now)) (λ k l. omega arith),
-    each-of-row _ _ (Small (g .BOUND) (c .args .bytes .now)) (c .pre .small))))
+read-block-requires g c κs = (
+  search needs,
+  (
+    c .pre .room .1,
+    (
+      each-of-row _ _ (Present (c .args .bytes .now)) (λ k l. omega arith),
+      each-of-row _ _ (Small (g .BOUND) (c .args .bytes .now)) (c .pre .small),
+    ),
+  ),
+)
 
 pub returns : need.returns
 returns g c =

@@ -22,6 +22,8 @@ pub returns : need.returns
 returns c =
     let range = c .pre .ranged 1 (omega arith) in
     let limit : number (c .args .bytes .now) 1 ≡ pos (natAbs (toZ w64 (ofZ w64 (c .number-at-limit .result)))) = omega (arith, ints, c .number-at-limit .ensures) in
-    let noise = c .read-row-noise .ensures in
-    (refl, design-spells _ _ _ _ _ (c .read-row-noise .result) (c .pre) limit (c .fill-plant-plant .ensures) (c .fill-law-law .ensures)
-    (record { each = noise .each; blank = noise .blank; above = noise .above }))
+    let noise = c .read-row-noise .ensures in (
+      refl,
+      design-spells _ _ _ _ _ (c .read-row-noise .result) (c .pre) limit (c .fill-plant-plant .ensures) (c .fill-law-law .ensures)
+          (record { each = noise .each; blank = noise .blank; above = noise .above }),
+    )

@@ -1,23 +1,28 @@
-use mathlib.Core.Path.{_≡_, sym, subst, _∙_}
+use mathlib.Core.Path.{_≡_, sym}
+use Prim.Native.Nat.{ℕ}
 use borrow.Author.Needs.{needs}
-use mir.Syntax.{w64}
-use mir.Val.{SFits}
-use Rattle.std.proofs.shelf.Signed.{toZ-ofZ}
 use Rattle.std.specs.declared.option.Option.the-variants.{Some}
-use Rattle.format.specs.Numbers.{number}
+use Rattle.format.specs.Ranges.{AllIn}
 use Rattle.format.specs.Reading.{size}
+use Rattle.format.specs.Refusals.{FirstOut}
+use Rattle.format.specs.Sizes.{most-numbers}
+use Rattle.format.specs.declared.refusal.Document.the-variants.{Design}
+use Rattle.format.specs.declared.refusal.Refusal.the-variants.{Range as OutOfRange}
+use Rattle.format.proofs.Known.{design-told}
 use Rattle.format.proofs.sound.check_design.Needs as need
 
 pub returns-in-Ok : need.returns-in-Ok
 returns-in-Ok c =
-    let told : size 6 (c .args .design .now) ≡ Some (c .in-Some .n) = sym (c .in-Some .ensures tt .value) in
-    let fits : SFits w64 (c .number-at .result) = search needs in
-    let over : SFits w64 (number (c .args .design .now) 2) = subst (SFits w64) (c .number-at .ensures) fits in
-    (told, c .in-Some .ensures tt .bound .1, simp told (simp (c .design-count .ensures, c .number-at .ensures, toZ-ofZ w64 _ over) at (c .in-Ok .ensures tt)))
+    let design = c .args .design .now in
+    let told : size most-numbers design ≡ Some (c .in-Some .n) = sym (c .in-Some .ensures tt .value) in (
+      told,
+      c .in-Some .ensures tt .bound .1,
+      design-told (λ ranges count. AllIn ranges design count) design _ _ (c .number-at .result) told (c .design-count .ensures) (search needs) (c .number-at .ensures) (c .in-Ok .ensures tt),
+    )
 
 pub returns-in-Err : need.returns-in-Err
 returns-in-Err c =
-    let told : size 6 (c .args .design .now) ≡ Some (c .in-Some .n) = sym (c .in-Some .ensures tt .value) in
-    let fits : SFits w64 (c .number-at .result) = search needs in
-    let over : SFits w64 (number (c .args .design .now) 2) = subst (SFits w64) (c .number-at .ensures) fits in
-    simp told (simp (c .design-count .ensures, c .number-at .ensures, toZ-ofZ w64 _ over) at (c .in-Err .ensures tt))
+    let design = c .args .design .now in
+    let told : size most-numbers design ≡ Some (c .in-Some .n) = sym (c .in-Some .ensures tt .value) in
+    design-told (λ ranges count. (place : ℕ) × (c .in-Err .refusal ≡ OutOfRange Design place) × FirstOut ranges design count place)
+    design _ _ (c .number-at .result) told (c .design-count .ensures) (search needs) (c .number-at .ensures) (c .in-Err .ensures tt)
