@@ -6,6 +6,7 @@ ghost use Rattle.std.specs.Results.{Cases};
 ghost use Rattle.std.specs.Options.{Cases as BySome};
 ghost use Rattle.std.specs.declared.option.Option.the-variants.{Some};
 ghost use Rattle.format.specs.Refusals.{Sound, Refused, Whole, Ranged, FirstNumber};
+ghost use Rattle.format.specs.Parts.{DesignBytes, SetBytes, SheetBytes};
 ghost use Rattle.format.specs.Sizes.{most-numbers, most-faces};
 ghost use Rattle.format.specs.declared.refusal.Document.{Document};
 ghost use Rattle.format.specs.Reading.{claim-given as given, design-given as designGiven, set-given as setGiven, sheet-given as sheetGiven, size as sizeOf};
@@ -104,7 +105,7 @@ fn check_sheet(
 
 /// The sizes of the documents, or their first fault.
 pub(crate) fn check(design: &[u8], set: &[u8], sheet: &[u8]) -> Result<Sizes, Refusal>
-    ensures { λ r. ⌜ Cases r (λ z. Sound (given (now (design .entry)) (now (set .entry)) (now (sheet .entry))) × (sizeOf most-numbers (now (design .entry)) ≡ Some (z .n)) × (sizeOf most-faces (now (set .entry)) ≡ Some (z .faces))) (Refused (given (now (design .entry)) (now (set .entry)) (now (sheet .entry)))) ⌝ }
+    ensures { λ r. ⌜ Cases r (λ z. Sound (given (now (design .entry)) (now (set .entry)) (now (sheet .entry))) × DesignBytes (z .n) (now (design .entry)) × SetBytes (z .n) (z .faces) (now (set .entry)) × SheetBytes (z .n) (z .faces) (now (sheet .entry))) (Refused (given (now (design .entry)) (now (set .entry)) (now (sheet .entry)))) ⌝ }
 {
     check_lengths(design, set, sheet)?;
     let n = check_design(design)?;

@@ -5,6 +5,7 @@ use Rattle.format.specs.Reading.{claim-given}
 use Rattle.format.specs.Refusals.{Given}
 use Rattle.format.specs.declared.refusal.Document.{Document}
 use Rattle.format.specs.declared.refusal.Document.the-variants.{Design, Set, Sheet}
+use Rattle.format.proofs.Known.{design-known, set-known, sheet-known}
 use Rattle.format.proofs.Order.{sound, refused-at, before-design, before-set, before-sheet}
 use Rattle.format.proofs.sound.check.Needs as need
 
@@ -44,7 +45,14 @@ returns-in-Break-check-sheet c =
 
 pub returns : need.returns
 returns c =
-    let given : Document → Given = claim-given (c .args .design .now) (c .args .set .now) (c .args .sheet .now) in
+    let design = c .args .design .now in
+    let set = c .args .set .now in
+    let sheet = c .args .sheet .now in
     let n = c .in-Continue-n .ensures tt in
     let faces = c .in-Continue-faces .ensures tt in
-    (sound given (c .in-Continue-check-lengths .ensures tt) (n .2) (faces .2) (c .in-Continue-check-sheet .ensures tt), n .0, faces .0)
+    let all = sound (claim-given design set sheet) (c .in-Continue-check-lengths .ensures tt) (n .2) (faces .2) (c .in-Continue-check-sheet .ensures tt) in (
+      all,
+      design-known design set sheet _ _ (n .0) (faces .0) all,
+      set-known design set sheet _ _ (n .0) (faces .0) all,
+      sheet-known design set sheet _ _ (n .0) (faces .0) all,
+    )
