@@ -9,15 +9,18 @@ use lib.Signed.{leZ}
 use Rattle.std.specs.Options.{mapped, valueOr}
 use Rattle.std.specs.declared.option.Option.{Option}
 use Rattle.std.specs.declared.option.Option.the-variants.{Some, None}
+use Rattle.std.specs.declared.result.Result.{Result}
+use Rattle.std.specs.declared.result.Result.the-variants.{Ok, Err}
 use Rattle.format.specs.Layouts.{design-range, set-range, sheet-range}
 use Rattle.format.specs.Numbers.{number}
-use Rattle.format.specs.Refusals.{Given}
+use Rattle.format.specs.Refusals.{Given, Refused, Sound}
 use Rattle.format.specs.Sizes.{most-numbers, most-faces, design-count, set-count, sheet-count}
 use Rattle.format.specs.Spelling.{Spells}
 use Rattle.format.specs.Values.{design-number, set-number, sheet-number}
 use Rattle.format.specs.declared.claim.Claim.{Claim}
 use Rattle.format.specs.declared.refusal.Document.{Document}
 use Rattle.format.specs.declared.refusal.Document.the-variants.{Design, Set, Sheet}
+use Rattle.format.specs.declared.refusal.Refusal.{Refusal}
 
 -- the size that a document's first number gives, where that is one from 1 to most
 abbrev pub size : ℕ → List ℕ → Option ℕ
@@ -56,3 +59,8 @@ pub record Holds (design set sheet : List ℕ) (c : Claim) : Type 0 where
   pub of-design : Spells design (design-count (c .design .n)) (design-number (c .design))
   pub of-set : Spells set (set-count (c .faces .n) (c .faces .count)) (set-number (c .faces))
   pub of-sheet : Spells sheet (sheet-count (c .certificate .n) (c .certificate .count)) (sheet-number (c .certificate))
+
+-- what reading answers: where the documents are sound, the claim whose bytes they are, and else their first fault
+abbrev pub Reads : List ℕ → List ℕ → List ℕ → Result Claim Refusal → Type 0
+Reads design set sheet (Ok c) = Sound (claim-given design set sheet) × Holds design set sheet c
+Reads design set sheet (Err e) = Refused (claim-given design set sheet) e

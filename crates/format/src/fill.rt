@@ -14,7 +14,7 @@ use crate::design::Design;
 use crate::design::Law;
 use crate::design::Plant;
 use crate::faces::Faces;
-use crate::number::number_at;
+use crate::number::natural_at;
 use crate::sizes::FACES;
 use crate::sizes::FACES_BY_NUMBERS;
 use crate::sizes::NUMBERS;
@@ -27,7 +27,7 @@ fn fill_plant(bytes: &[u8], n: usize) -> Plant
 {
     let b_at = 3 + n * n;
     let off_at = b_at + n;
-    let over = number_at(bytes, 2) as u32;
+    let over = natural_at(bytes, 2);
     let a = read_grid(bytes, 3, n, n, NUMBERS);
     let b = read_row(bytes, b_at, n);
     let off = read_row(bytes, off_at, n);
@@ -41,7 +41,7 @@ fn fill_law(bytes: &[u8], n: usize) -> Law
 {
     let over_law_at = 3 + n * n + n + n;
     let k_at = over_law_at + 1;
-    let over_law = number_at(bytes, over_law_at) as u32;
+    let over_law = natural_at(bytes, over_law_at);
     let k = read_row(bytes, k_at, n);
     Law { over_law, k }
 }
@@ -52,7 +52,7 @@ pub(crate) fn fill_design(bytes: &[u8], n: usize) -> Design
     ensures { λ r. ⌜ (r .n ≡ n) × Spells (now (bytes .entry)) (designCount (r .n)) (designNumber r) ⌝ }
 {
     let noise_at = 3 + n * n + n + n + 1 + n;
-    let limit = number_at(bytes, 1) as u32;
+    let limit = natural_at(bytes, 1);
     let plant = fill_plant(bytes, n);
     let law = fill_law(bytes, n);
     let noise = read_row(bytes, noise_at, n);
@@ -132,7 +132,7 @@ pub(crate) fn fill_certificate(bytes: &[u8], n: usize, faces: usize) -> Certific
 {
     let w_at = 1 + faces * faces;
     let v_at = w_at + 2 * faces;
-    let scale = number_at(bytes, 0) as u32;
+    let scale = natural_at(bytes, 0);
     let m = fill_multipliers(bytes, 1, faces, n, faces);
     let w = fill_multipliers(bytes, w_at, 2, n, faces);
     let v = fill_multipliers(bytes, v_at, 2 * n, n, faces);

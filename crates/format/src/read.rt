@@ -1,8 +1,7 @@
 //! Reading a design, a set and a sheet that are given together.
 ghost use mathlib.Core.Path.{_≡_};
-ghost use Rattle.std.specs.Results.{Cases};
-ghost use Rattle.format.specs.Reading.{claim-given as given, Holds};
-ghost use Rattle.format.specs.Refusals.{Exact, Sound, Refused};
+ghost use Rattle.format.specs.Reading.{Reads};
+ghost use Rattle.format.specs.Refusals.{Exact};
 use crate::claim::Claim;
 use crate::fill::fill_certificate;
 use crate::fill::fill_design;
@@ -12,7 +11,7 @@ use crate::sound::check;
 
 /// The claim that the documents make, or their first fault.
 pub fn read_claim(design: &[u8], set: &[u8], sheet: &[u8]) -> Result<Claim, Refusal>
-    ensures { λ r. ⌜ Cases r (λ c. Sound (given (now (design .entry)) (now (set .entry)) (now (sheet .entry))) × Holds (now (design .entry)) (now (set .entry)) (now (sheet .entry)) c) (Refused (given (now (design .entry)) (now (set .entry)) (now (sheet .entry)))) ⌝ }
+    ensures { λ r. ⌜ Reads (now (design .entry)) (now (set .entry)) (now (sheet .entry)) r ⌝ }
 {
     let sizes = check(design, set, sheet)?;
     let design = fill_design(design, sizes.n);
