@@ -59,7 +59,7 @@ mod tests {
         1,
     ];
 
-    /// The bytes of a row of numbers.
+    // The bytes of a row of numbers.
     fn document(heap: Global, numbers: &[i64]) -> Result<Vec<u8>, AllocError> {
         let mut bytes = Vec::new(heap);
         for x in numbers {
