@@ -49,8 +49,8 @@ number() {
   printf %b "$escapes"
 }
 
-# document NUMBER..: the bytes of a document. times COUNT WORD..: the words repeated.
-document() { local value && for value; do number "$value"; done; }
+# bytes_of NUMBER..: the bytes of a document. times COUNT WORD..: the words repeated.
+bytes_of() { local value && for value; do number "$value"; done; }
 times() { local i && for ((i = 0; i < $1; i++)); do echo "${@:2}"; done; }
 
 # with FILE INDEX VALUE: makes a copy with one number replaced and prints its name,
@@ -107,10 +107,10 @@ lengths() {
 # for each kind are read, but not with a byte less or more, nor with a wrong last number.
 uniform() {
   local n=$1 faces=$2 entries=$(($2 * ($2 + 2 + 2 * $1))) base=("$dir"/uniform.{design,set,sheet})
-  document "$n" "$3" "$4" $(times $((n * n + n)) "$5") $(times "$n" "$6") "$7" \
+  bytes_of "$n" "$3" "$4" $(times $((n * n + n)) "$5") $(times "$n" "$6") "$7" \
     $(times "$n" "$5") $(times "$n" "$8") >"${base[0]}"
-  document "$faces" $(times "$faces" $(times "$n" "$9") "${10}") >"${base[1]}"
-  document "${11}" $(times $entries "${12}") >"${base[2]}"
+  bytes_of "$faces" $(times "$faces" $(times "$n" "$9") "${10}") >"${base[1]}"
+  bytes_of "${11}" $(times $entries "${12}") >"${base[2]}"
   reads "$n" "$faces" "${base[@]}"
   lengths right-1 right+1
   outside 0 $((3 + n * n + 4 * n)) -1
@@ -121,9 +121,9 @@ uniform() {
 extremes=(-9223372036854775808 9223372036854775807)
 head=("$dir"/head.{design,set,sheet})
 design=${head[0]} set=${head[1]} sheet=${head[2]}
-document 2 110 100 90 20 0 95 0 10 50 50 2 2 7 2 1 >"$design"
-document 4 1 0 21 -1 0 21 0 1 8 0 -1 8 >"$set"
-document 1 180 0 40 0 0 180 0 40 0 20 120 0 20 0 0 120 \
+bytes_of 2 110 100 90 20 0 95 0 10 50 50 2 2 7 2 1 >"$design"
+bytes_of 4 1 0 21 -1 0 21 0 1 8 0 -1 8 >"$set"
+bytes_of 1 180 0 40 0 0 180 0 40 0 20 120 0 20 0 0 120 \
   2 0 7 0 0 2 0 7 1 0 0 0 0 1 0 0 0 0 1 0 0 0 0 1 >"$sheet"
 base=("${head[@]}")
 

@@ -1,5 +1,4 @@
 //! `check DESIGN SET SHEET`: reads three documents and says what they are, or why they are refused.
-use format::claim::Claim;
 use format::read::read_claim;
 use format::report::RefusalDisplay;
 use std::env;

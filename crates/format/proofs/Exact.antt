@@ -1,9 +1,8 @@
 -- Documents have one first fault at most, and sound ones have none.
-use mathlib.Core.Path.{_≡_, refl, sym, ap, ap₂, subst, _∙_}
+use mathlib.Core.Path.{_≡_, refl, sym, ap₂, subst, _∙_}
 use mathlib.Core.List.{List}
 use Prim.Native.Nat.{ℕ, _<_}
 use native.Mathlib.Omega.{arith}
-use Rattle.std.specs.declared.option.Option.{Option}
 use Rattle.format.specs.Refusals.{Given, Misfit, FirstOut, LengthFault, RangeFault, Refused, Sound, asked, rank}
 use Rattle.format.specs.declared.range.Range.{Range}
 use Rattle.format.specs.declared.refusal.Document.{Document}

@@ -1,24 +1,24 @@
 -- What sound documents say of each of them, once their sizes are known.
 use mathlib.Core.Path.{_≡_, subst, _∙_}
 use mathlib.Core.List.{List}
-use Prim.Native.Nat.{ℕ, _*_, _≤_}
+use Prim.Native.Nat.{ℕ, _≤_}
 use native.Mathlib.Omega.{arith}
 use borrow.Author.Differences.{ints}
-use lib.IntN.{ℤ, pos, natAbs}
+use lib.IntN.{ℤ, pos}
 use mir.Syntax.{w64}
 use mir.Val.{SFits, toZ, ofZ}
 use Rattle.std.proofs.shelf.Signed.{toZ-ofZ}
 use Rattle.std.proofs.shelf.Ways.{tells}
 use Rattle.std.specs.Options.{mapped, valueOr}
 use Rattle.std.specs.declared.option.Option.{Option}
-use Rattle.std.specs.declared.option.Option.the-variants.{Some, None}
-use Rattle.format.specs.Layouts.{design-range, set-range, sheet-range}
+use Rattle.std.specs.declared.option.Option.the-variants.{Some}
+use Rattle.format.specs.Layouts.{design-range}
 use Rattle.format.specs.Numbers.{number}
 use Rattle.format.specs.Parts.{DesignBytes, SetBytes, SheetBytes}
 use Rattle.format.specs.Ranges.{AllIn}
-use Rattle.format.specs.Reading.{size, both, claim-given}
+use Rattle.format.specs.Reading.{size, claim-given}
 use Rattle.format.specs.Refusals.{Sound, Fits, asked}
-use Rattle.format.specs.Sizes.{most-numbers, most-faces, design-count, set-count, sheet-count}
+use Rattle.format.specs.Sizes.{most-numbers, most-faces, design-count}
 use Rattle.format.specs.declared.range.Range.{Range}
 use Rattle.format.specs.declared.refusal.Document.the-variants.{Design, Set, Sheet}
 

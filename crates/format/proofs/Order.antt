@@ -1,6 +1,5 @@
 -- From a fault of one document to the refusal of all that were given.
-use mathlib.Core.Path.{_≡_}
-use Prim.Native.Nat.{ℕ, _<_}
+use Prim.Native.Nat.{_<_}
 use native.Mathlib.Omega.{arith}
 use Rattle.format.specs.Refusals.{Given, Whole, Ranged, FirstNumber, Refused, Sound, rank}
 use Rattle.format.specs.declared.refusal.Document.{Document}

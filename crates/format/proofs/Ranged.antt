@@ -1,17 +1,15 @@
 -- The numbers of a value are in their ranges, by its type.
-use mathlib.Core.Path.{_≡_}
-use Prim.Native.Nat.{ℕ, _+_, _-_, _*_, _/_, _≤_, _<_}
+use Prim.Native.Nat.{ℕ, _+_, _-_, _/_, _≤_, _<_}
 use native.Mathlib.Omega.{arith}
 use borrow.Author.Differences.{ints}
 use lib.Dec.{ltb}
 use lib.IntN.{ℤ, pos, negsuc, natAbs}
 use lib.Signed.{_≤ℤ_}
 use Rattle.linear.specs.Tables.{at}
-use Rattle.linear.specs.declared.table.Table.{Table}
 use Rattle.format.specs.Layouts.{design-range, set-range, sheet-range}
 use Rattle.format.specs.Ranges.{In, from-to}
 use Rattle.format.specs.Sizes.{most-numbers, most-faces, b-at, off-at, over-law-at, k-at, noise-at, w-at, v-at, design-count}
-use Rattle.format.specs.Values.{law-number, design-number, set-number, sheet-number}
+use Rattle.format.specs.Values.{design-number, set-number, sheet-number}
 use Rattle.format.specs.declared.certificate.Certificate.{Certificate}
 use Rattle.format.specs.declared.design.Design.{Design}
 use Rattle.format.specs.declared.faces.Faces.{Faces}

@@ -1,22 +1,21 @@
 -- What the bytes of a set say of its parts.
-use mathlib.Core.Path.{_≡_, refl, sym, ap, _∙_}
+use mathlib.Core.Path.{_≡_, sym, ap, _∙_}
 use mathlib.Core.List.{List}
-use Prim.Native.Nat.{ℕ, _+_, _-_, _*_, _/_, _%_, _≤_, _<_}
+use Prim.Native.Nat.{ℕ, _+_, _-_, _*_, _/_, _%_, _<_}
 use native.Mathlib.Nat.{mod-lt, mul-comm}
 use native.Mathlib.Omega.{arith}
 use borrow.Author.Differences.{ints}
-use lib.IntN.{ℤ, pos, negsuc, natAbs}
+use lib.IntN.{ℤ, pos, negsuc}
 use lib.ListN.{length}
-use lib.Signed.{_≤ℤ_}
 use Rattle.std.proofs.shelf.Bits.{div-add-mod', div-below, mod-mul-add, mul-add-lt}
 use Rattle.std.proofs.shelf.Ways.{tells}
-use Rattle.linear.specs.Tables.{at, grid}
+use Rattle.linear.specs.Tables.{at}
 use Rattle.format.specs.Layouts.{set-range}
 use Rattle.format.specs.Numbers.{number}
 use Rattle.format.specs.Parts.{SetBytes, RowsOf, TopsOf}
 use Rattle.format.specs.Ranges.{In, from-to}
 use Rattle.format.specs.Sizes.{most-numbers, most-faces, set-count}
-use Rattle.format.specs.Slots.{Each, Present, Small, Above, slot}
+use Rattle.format.specs.Slots.{Each, Present, Small, slot}
 use Rattle.format.specs.Spelling.{Spells}
 use Rattle.format.specs.Values.{set-number}
 use Rattle.format.specs.declared.blocks.Block.{Block}

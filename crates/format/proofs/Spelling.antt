@@ -5,7 +5,7 @@ use Prim.Native.Nat.{ℕ, zero, suc, _+_, _*_, _/_, _%_, _^_, _≤_, _<_}
 use native.Mathlib.Omega.{arith}
 use borrow.Author.Count.{below-more}
 use borrow.Author.Differences.{ints}
-use lib.IntN.{ℤ, pos}
+use lib.IntN.{ℤ}
 use lib.ListN.{length, getD, length-append}
 use mir.Syntax.{w64}
 use mir.Val.{toZ, ofZ, SFits}
@@ -68,31 +68,20 @@ each-byte P a b c d e f g h (suc (suc (suc (suc (suc (suc (suc (suc n)))))))) l 
 
 -- a word says what each of its bytes is
 module _ (xs : List ℕ) (p : ℕ) (small : Bytes xs) where
+  -- the word's bytes are bytes, in one row for `omega`
+  eight : (getD xs p 0 < 256) × (getD xs (p + 1) 0 < 256) × (getD xs (p + 2) 0 < 256) × (getD xs (p + 3) 0 < 256) × (getD xs (p + 4) 0 < 256) × (getD xs (p + 5) 0 < 256)
+      × (getD xs (p + 6) 0 < 256) × (getD xs (p + 7) 0 < 256)
+  eight = (small p, small (p + 1), small (p + 2), small (p + 3), small (p + 4), small (p + 5), small (p + 6), small (p + 7))
+
   byte-is : (c : ℕ) → c < 8 → getD xs (p + c) 0 ≡ word xs p / 256 ^ c % 256
   byte-is =
-      let s0 = small p in
-      let s1 = small (p + 1) in
-      let s2 = small (p + 2) in
-      let s3 = small (p + 3) in
-      let s4 = small (p + 4) in
-      let s5 = small (p + 5) in
-      let s6 = small (p + 6) in
-      let s7 = small (p + 7) in
-      let z : p + 0 ≡ p = omega arith in
+      let bytes = eight in
+      let first : p + 0 ≡ p = omega arith in
       each-byte (λ c. getD xs (p + c) 0 ≡ word xs p / 256 ^ c % 256)
-      (rw z (omega arith)) (omega arith) (omega arith) (omega arith) (omega arith) (omega arith) (omega arith) (omega arith)
+      (rw first (omega arith)) (omega arith) (omega arith) (omega arith) (omega arith) (omega arith) (omega arith) (omega arith)
 
   word-small : word xs p < 2 ^ 64
-  word-small =
-      let s0 = small p in
-      let s1 = small (p + 1) in
-      let s2 = small (p + 2) in
-      let s3 = small (p + 3) in
-      let s4 = small (p + 4) in
-      let s5 = small (p + 5) in
-      let s6 = small (p + 6) in
-      let s7 = small (p + 7) in
-      omega arith
+  word-small = let bytes = eight in omega arith
 
 -- numbers say what their bytes are
 pub one-spelling : (xs ys : List ℕ) (count : ℕ) (f : ℕ → ℤ) → Bytes xs → Bytes ys → Spells xs count f → Spells ys count f → xs ≡ ys

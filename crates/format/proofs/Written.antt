@@ -1,19 +1,17 @@
 -- What was written of a claim can be read.
-use mathlib.Core.Path.{_≡_, sym, ap, subst, _∙_}
+use mathlib.Core.Path.{_≡_}
 use mathlib.Core.List.{List}
-use Prim.Native.Nat.{ℕ, _*_, _≤_, _<_}
+use Prim.Native.Nat.{ℕ, _≤_}
 use native.Mathlib.Omega.{arith}
 use borrow.Author.Differences.{ints}
 use lib.IntN.{pos}
 use lib.ListN.{length}
 use Rattle.std.proofs.shelf.Ways.{tells}
 use Rattle.std.specs.declared.option.Option.the-variants.{Some}
-use Rattle.format.specs.Layouts.{design-range, set-range, sheet-range}
 use Rattle.format.specs.Numbers.{number}
-use Rattle.format.specs.Ranges.{AllIn}
 use Rattle.format.specs.Reading.{Holds, size, claim-given}
-use Rattle.format.specs.Refusals.{Sound, Whole, Ranged}
-use Rattle.format.specs.Sizes.{most-numbers, most-faces, design-count, set-count, sheet-count}
+use Rattle.format.specs.Refusals.{Sound, Whole}
+use Rattle.format.specs.Sizes.{most-numbers, most-faces}
 use Rattle.format.specs.declared.claim.Claim.{Claim}
 use Rattle.format.specs.declared.refusal.Document.{Document}
 use Rattle.format.specs.declared.refusal.Document.the-variants.{Design, Set, Sheet}

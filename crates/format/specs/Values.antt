@@ -1,6 +1,6 @@
 -- What each number of a document is, for the values that it holds.
 use mathlib.Core.Bool.{cond}
-use Prim.Native.Nat.{ℕ, _+_, _-_, _*_, _/_, _%_}
+use Prim.Native.Nat.{ℕ, _+_, _-_, _/_, _%_}
 use lib.Dec.{ltb}
 use lib.IntN.{ℤ, pos}
 use Rattle.linear.specs.Tables.{at, grid}

@@ -5,8 +5,8 @@ ghost use lib.Signed.{_≤ℤ_};
 ghost use Rattle.linear.specs.Tables.{at as entryOf};
 ghost use Rattle.format.specs.Blocks.{Blank};
 ghost use Rattle.format.specs.Sizes.{most-numbers};
-use crate::sizes::NUMBERS;
 use crate::sizes::NUMBERS_BY_NUMBERS;
+use crate::sizes::Row;
 use linear::table::Table;
 
 /// What the state does: `over` times the next state is `a x + b u`, and off by at most `off`. Row `i` of `a` begins at
@@ -15,8 +15,8 @@ use linear::table::Table;
 pub struct Plant {
     pub over: u32,
     pub a: Table<NUMBERS_BY_NUMBERS, 2_000>,
-    pub b: Table<NUMBERS, 2_000>,
-    pub off: Table<NUMBERS, 1_000_000>,
+    pub b: Row<2_000>,
+    pub off: Row<1_000_000>,
     ghost ranged: { (1 ≤ over) × (over ≤ 1000) },
 }
 
@@ -24,7 +24,7 @@ pub struct Plant {
 #[derive(Clone, Copy)]
 pub struct Law {
     pub over_law: u32,
-    pub k: Table<NUMBERS, 2_000>,
+    pub k: Row<2_000>,
     ghost ranged: { (1 ≤ «over_law») × («over_law» ≤ 1000) },
 }
 
@@ -35,7 +35,7 @@ pub struct Design {
     pub limit: u32,
     pub plant: Plant,
     pub law: Law,
-    pub noise: Table<NUMBERS, 1_000>,
+    pub noise: Row<1_000>,
     ghost sized: { (1 ≤ n) × (n ≤ most-numbers) },
     ghost limited: { (1 ≤ limit) × (limit ≤ 30000) },
     ghost halved: { (i : ℕ) → i < n → pos (plant .over) ≤ℤ (pos 2 *ℤ entryOf (plant .off .cells) i) },

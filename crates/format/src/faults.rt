@@ -42,32 +42,30 @@ pub(crate) struct Extents {
 }
 
 impl Extents {
+    /// What the sizes that can be told say.
     pub(crate) fn of(n: Option<usize>, faces: Option<usize>) -> Extents
         requires { ⌜ BySome n (Unit {0}) (λ n. n ≤ most-numbers) ⌝ ∗ ⌜ BySome faces (Unit {0}) (λ c. c ≤ most-faces) ⌝ }
         ensures of_design { λ r. ⌜ r .design ≡ mapped designCount n ⌝ }
         ensures of_set { λ r. ⌜ r .set ≡ both setCount n faces ⌝ }
         ensures of_sheet { λ r. ⌜ r .sheet ≡ both sheetCount n faces ⌝ }
     {
-        match (n, faces) {
-            (None, None) => Extents {
+        match n {
+            None => Extents {
                 design: None,
                 set: None,
                 sheet: None,
             },
-            (None, Some(_)) => Extents {
-                design: None,
-                set: None,
-                sheet: None,
-            },
-            (Some(n), None) => Extents {
-                design: Some(design_count(n)),
-                set: None,
-                sheet: None,
-            },
-            (Some(n), Some(faces)) => Extents {
-                design: Some(design_count(n)),
-                set: Some(set_count(n, faces)),
-                sheet: Some(sheet_count(n, faces)),
+            Some(n) => match faces {
+                None => Extents {
+                    design: Some(design_count(n)),
+                    set: None,
+                    sheet: None,
+                },
+                Some(faces) => Extents {
+                    design: Some(design_count(n)),
+                    set: Some(set_count(n, faces)),
+                    sheet: Some(sheet_count(n, faces)),
+                },
             },
         }
     }

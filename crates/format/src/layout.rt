@@ -1,6 +1,6 @@
 //! One search for the first number out of its range, whatever the document.
 ghost use mathlib.Core.Path.{_≡_};
-ghost use Prim.Native.Nat.{ℕ, _+_, _*_, _≤_, _<_};
+ghost use Prim.Native.Nat.{ℕ, _*_, _≤_, _<_};
 ghost use lib.ListN.{length};
 ghost use Rattle.format.specs.declared.range.Range.{Range};
 ghost use Rattle.format.specs.Ranges.{AllIn, Out};
@@ -8,7 +8,7 @@ use crate::number::number_at;
 use crate::range::Range;
 
 /// The range of each number of a document.
-pub(crate) trait Layout {
+pub trait Layout {
     ghost ranges: { Self → ℕ → Range };
 
     fn range(&self, i: usize) -> Range

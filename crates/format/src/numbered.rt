@@ -1,6 +1,6 @@
 //! A document by its numbers, and one loop that writes any of them.
 ghost use mathlib.Core.Path.{_≡_};
-ghost use Prim.Native.Nat.{ℕ, _*_, _^_, _≤_, _<_};
+ghost use Prim.Native.Nat.{ℕ, _^_, _<_};
 ghost use lib.IntN.{ℤ};
 ghost use Rattle.std.specs.Of.Vec.{vec-items};
 ghost use Rattle.std.specs.Vec.{made};
@@ -9,7 +9,7 @@ use std::alloc::AllocError;
 use std::alloc::Global;
 
 /// What has a document, by the numbers of that.
-pub(crate) trait Numbered {
+pub trait Numbered {
     ghost counts: { Self → ℕ };
 
     ghost numbers: { Self → ℕ → ℤ };

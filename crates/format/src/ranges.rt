@@ -1,6 +1,6 @@
 //! The ranges of the three documents.
 ghost use mathlib.Core.Path.{_≡_};
-ghost use Prim.Native.Nat.{ℕ, _+_, _*_, _/_, _≤_, _<_};
+ghost use Prim.Native.Nat.{_+_, _*_, _/_, _≤_, _<_};
 ghost use lib.IntN.{pos, natAbs};
 ghost use Rattle.format.specs.Sizes.{most-numbers};
 ghost use Rattle.format.specs.Layouts.{design-range as designRange, set-range as setRange, sheet-range as sheetRange};
@@ -15,7 +15,7 @@ pub(crate) struct DesignLayout {
     ghost small: { n ≤ most-numbers },
 }
 
-pub(crate) impl Layout for DesignLayout as LayoutOfDesign {
+pub impl Layout for DesignLayout as LayoutOfDesign {
     ghost ranges = { λ d i. designRange (d .n) (d .over) i };
 
     fn range(&self, i: usize) -> Range {
@@ -80,7 +80,7 @@ pub(crate) struct SetLayout {
     ghost small: { n ≤ most-numbers },
 }
 
-pub(crate) impl Layout for SetLayout as LayoutOfSet {
+pub impl Layout for SetLayout as LayoutOfSet {
     ghost ranges = { λ s i. setRange (s .n) i };
 
     fn range(&self, i: usize) -> Range {
@@ -104,7 +104,7 @@ pub(crate) impl Layout for SetLayout as LayoutOfSet {
 #[derive(Clone, Copy)]
 pub(crate) struct SheetLayout;
 
-pub(crate) impl Layout for SheetLayout as LayoutOfSheet {
+pub impl Layout for SheetLayout as LayoutOfSheet {
     ghost ranges = { λ _ i. sheetRange i };
 
     fn range(&self, i: usize) -> Range {

@@ -1,5 +1,4 @@
 //! Reading a design, a set and a sheet that are given together.
-ghost use mathlib.Core.Path.{_≡_};
 ghost use Rattle.format.specs.Reading.{Reads};
 ghost use Rattle.format.specs.Refusals.{Exact};
 use crate::claim::Claim;

@@ -1,9 +1,7 @@
 //! Whether a design, a set and a sheet that are given together can be read.
 ghost use mathlib.Core.Path.{_≡_};
-ghost use Prim.Native.Nat.{ℕ, _*_, _≤_, _<_};
-ghost use lib.ListN.{length};
+ghost use Prim.Native.Nat.{_≤_};
 ghost use Rattle.std.specs.Results.{Cases};
-ghost use Rattle.std.specs.Options.{Cases as BySome};
 ghost use Rattle.std.specs.declared.option.Option.the-variants.{Some};
 ghost use Rattle.format.specs.Refusals.{Sound, Refused, Whole, Ranged, FirstNumber};
 ghost use Rattle.format.specs.Parts.{DesignBytes, SetBytes, SheetBytes};

@@ -1,7 +1,6 @@
 //! The numbers of the three documents.
 ghost use mathlib.Core.Path.{_≡_};
-ghost use Prim.Native.Nat.{ℕ, _+_, _*_, _/_, _%_, _^_, _≤_, _<_};
-ghost use lib.IntN.{ℤ};
+ghost use Prim.Native.Nat.{_+_, _*_, _/_, _%_, _^_, _≤_, _<_};
 ghost use Rattle.linear.specs.Tables.{grid as gridOf};
 ghost use Rattle.format.specs.Sizes.{most-faces, design-count as designCount, set-count as setCount, sheet-count as sheetCount};
 ghost use Rattle.format.specs.Values.{law-number as lawNumber, design-number as designNumber, set-number as setNumber, sheet-number as sheetNumber};
@@ -29,7 +28,7 @@ fn counted<const LEN: usize, const BOUND: u32>(
     i64::from(table.entry(stride * (k / columns) + k % columns))
 }
 
-pub(crate) impl Numbered for Design as NumbersOfDesign {
+pub impl Numbered for Design as NumbersOfDesign {
     ghost counts = { λ d. designCount (d .n) };
 
     ghost numbers = { λ d i. designNumber d i };
@@ -77,7 +76,7 @@ fn law_number(design: &Design, i: usize) -> i64
     }
 }
 
-pub(crate) impl Numbered for Faces as NumbersOfFaces {
+pub impl Numbered for Faces as NumbersOfFaces {
     ghost counts = { λ s. setCount (s .n) (s .count) };
 
     ghost numbers = { λ s i. setNumber s i };
@@ -100,7 +99,7 @@ pub(crate) impl Numbered for Faces as NumbersOfFaces {
     }
 }
 
-pub(crate) impl Numbered for Certificate as NumbersOfCertificate {
+pub impl Numbered for Certificate as NumbersOfCertificate {
     ghost counts = { λ t. sheetCount (t .n) (t .count) };
 
     ghost numbers = { λ t i. sheetNumber t i };

@@ -1,8 +1,6 @@
 //! Writing a design, a set and a sheet.
-ghost use mathlib.Core.Path.{_≡_};
 ghost use Rattle.std.specs.Of.Vec.{vec-items};
 ghost use Rattle.std.specs.Vec.{made};
-ghost use Rattle.format.specs.Reading.{Holds};
 ghost use Rattle.format.specs.RoundTrip.{Reads-back, Writes-back};
 ghost use Rattle.format.specs.Sizes.{design-count as designCount, set-count as setCount, sheet-count as sheetCount};
 ghost use Rattle.format.specs.Spelling.{Spells};

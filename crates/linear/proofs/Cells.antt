@@ -9,7 +9,7 @@ use denote.Struct.Props.{props}
 use borrow.Author.Count.{below-more}
 use borrow.Author.Differences.{ints}
 use lib.IntN.{ℤ, pos, natAbs}
-use lib.ListN.{length, getD, set, replicate}
+use lib.ListN.{length, set, replicate}
 use lib.Seq.{getD-set-same, getD-set-other}
 use mir.Syntax.{w32, w64}
 use mir.Val.{toZ, ofZ, SFits}

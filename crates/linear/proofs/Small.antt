@@ -1,9 +1,9 @@
 -- Each number that the checker adds up is small, by the ranges of what it is made of.
-use Prim.Native.Nat.{ℕ, _+_, _*_, _^_, _≤_, _<_}
+use Prim.Native.Nat.{ℕ, _+_, _*_, _≤_}
 use native.Mathlib.Omega.{arith}
 use native.Mathlib.Nat.{mul-le-mul}
 use borrow.Author.Differences.{ints}
-use lib.IntN.{ℤ, pos, _+ℤ_, _-ℤ_, _*ℤ_, negℤ, natAbs}
+use lib.IntN.{ℤ, pos, _*ℤ_, negℤ, natAbs}
 use Rattle.linear.specs.Ranges.{Ranges, AllSmall, Small, through-plant, through-law, law-off, off-by, added, tops, carried, mixed, law-left}
 use Rattle.linear.specs.Vectors.{Vector, dot, spread}
 use Rattle.linear.proofs.Ring.{product-within, plus-within, minus-within}

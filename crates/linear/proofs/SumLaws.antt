@@ -5,7 +5,7 @@ use Prim.Native.Nat.{ℕ, zero, suc, _+_, _-_, _*_, min, _≤_, _<_}
 use native.Mathlib.Omega.{arith}
 use native.Mathlib.Nat.{add-zero, add-suc, min-eq-left, min-eq-right, mul-le-mul, mul-le-mul-right}
 use borrow.Author.Differences.{ints}
-use lib.IntN.{ℤ, pos, _+ℤ_, _-ℤ_, _*ℤ_, natAbs, +ℤ-idr, *ℤ-zero}
+use lib.IntN.{ℤ, pos, _+ℤ_, _*ℤ_, natAbs, +ℤ-idr, *ℤ-zero}
 use lib.Signed.{_≤ℤ_}
 use Rattle.std.proofs.shelf.Tests.{cases-lt}
 use Rattle.linear.specs.Vectors.{Vector, Matrix, sum, sizes, dot, spread}

@@ -13,6 +13,10 @@ at xs i = getD xs i (pos 0)
 abbrev pub grid : ℕ → List ℤ → Matrix
 grid stride xs i j = at xs (stride * i + j)
 
+-- column j of such a matrix
+abbrev pub column : ℕ → List ℤ → ℕ → Vector
+column stride xs j i = grid stride xs i j
+
 -- each entry is at most b in size
 abbrev pub Within : ℕ → List ℤ → Type 0
 Within b xs = (i : ℕ) → natAbs (at xs i) ≤ b

@@ -1,9 +1,9 @@
 //! Sums of products over tables, exact in 64 bits by the bounds of the tables' types.
 ghost use mathlib.Core.Path.{_≡_};
-ghost use Prim.Native.Nat.{ℕ, _+_, _*_, _^_, _≤_, _<_};
+ghost use Prim.Native.Nat.{_*_, _^_, _≤_, _<_};
 ghost use lib.IntN.{pos, natAbs};
 ghost use Rattle.linear.specs.Lines.{line};
-ghost use Rattle.linear.specs.Tables.{at as entryOf, grid};
+ghost use Rattle.linear.specs.Tables.{at as entryOf, column as columnOf, grid};
 ghost use Rattle.linear.specs.Vectors.{Vector, dot as dotOf, spread as spreadOf};
 use crate::table::Table;
 
@@ -40,7 +40,7 @@ impl Line {
         stride: usize,
         j: usize,
     ) -> Line
-        ensures { λ r. ⌜ line (now (table .entry) .cells) (r .start) (r .step) ≡ (λ i. grid stride (now (table .entry) .cells) i j) ⌝ }
+        ensures { λ r. ⌜ line (now (table .entry) .cells) (r .start) (r .step) ≡ columnOf stride (now (table .entry) .cells) j ⌝ }
     {
         Line {
             start: j,
@@ -119,7 +119,7 @@ pub fn row_column<
     const B: u32,
 >(n: usize, x: &Table<L, A>, i: usize, y: &Table<M, B>, j: usize) -> i64
     requires { ⌜ L * (A * B) < 2 ^ 63 ⌝ }
-    ensures value { λ r. ⌜ r ≡ dotOf n (grid S (now (x .entry) .cells) i) (λ g. grid T (now (y .entry) .cells) g j) ⌝ }
+    ensures value { λ r. ⌜ r ≡ dotOf n (grid S (now (x .entry) .cells) i) (columnOf T (now (y .entry) .cells) j) ⌝ }
     ensures bound { λ r. ⌜ natAbs r ≤ n * (A * B) ⌝ }
 {
     products(n, x, Line::row(x, S, i), y, Line::column(y, T, j))

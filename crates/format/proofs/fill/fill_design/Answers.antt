@@ -1,5 +1,5 @@
 use mathlib.Core.Path.{refl}
-use Rattle.format.proofs.Designs.{NoiseOf, whole-design, design-spells}
+use Rattle.format.proofs.Designs.{whole-design, design-spells}
 use Rattle.format.proofs.fill.fill_design.Needs as need
 
 pub ghost-result : need.ghost-result

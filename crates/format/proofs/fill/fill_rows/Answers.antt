@@ -1,5 +1,3 @@
-use Prim.Native.Nat.{_<_}
-use native.Mathlib.Omega.{arith}
 use borrow.Author.Needs.{needs}
 use Rattle.format.proofs.Sets.{rows-there, rows-small, rows-of}
 use Rattle.format.proofs.fill.fill_rows.Needs as need

@@ -1,5 +1,3 @@
-use Prim.Native.Nat.{_<_}
-use native.Mathlib.Omega.{arith}
 use borrow.Author.Needs.{needs}
 use Rattle.format.proofs.Sets.{tops-there, tops-small, tops-of}
 use Rattle.format.proofs.fill.fill_tops.Needs as need

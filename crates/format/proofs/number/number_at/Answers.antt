@@ -1,7 +1,6 @@
 use mathlib.Core.Path.{_∙_}
 use borrow.Author.Needs.{needs}
 use mir.Syntax.{w64}
-use mir.Val.{SFits}
 use Rattle.std.proofs.shelf.Signed.{toZ-ofZ}
 use Rattle.format.specs.Numbers.{number}
 use Rattle.format.proofs.number.number_at.Needs as need

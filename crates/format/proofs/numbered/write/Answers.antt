@@ -1,14 +1,9 @@
-use mathlib.Core.Path.{_≡_, sym, subst}
-use mathlib.Core.List.{List, _++_}
-use Prim.Native.Nat.{ℕ, _+_}
 use borrow.Author.Needs.{needs}
-use lib.IntN.{ℤ}
 use mir.Syntax.{w64}
-use mir.Val.{SFits, ofZ}
+use mir.Val.{SFits}
 use Rattle.std.proofs.shelf.Signed.{toZ-ofZ}
 use Rattle.std.specs.Of.Vec.{vec-items}
-use Rattle.format.specs.Spelling.{Spells}
-use Rattle.format.proofs.Spelling.{spells-more, bytes-of}
+use Rattle.format.proofs.Spelling.{spells-more}
 use Rattle.format.proofs.numbered.write.Needs as need
 
 pub loop-i-again : need.loop-i-again

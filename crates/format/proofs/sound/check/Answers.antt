@@ -1,5 +1,3 @@
-use mathlib.Core.Path.{_≡_}
-use borrow.Author.Needs.{needs}
 use Rattle.std.proofs.shelf.Results.{err-from-errBy}
 use Rattle.format.specs.Reading.{claim-given}
 use Rattle.format.specs.Refusals.{Given}

@@ -1,4 +1,3 @@
-use mathlib.Core.Path.{sym}
 use Rattle.format.proofs.Spelling.{one-spelling}
 use Rattle.format.proofs.Unique.{one-claim}
 use Rattle.format.proofs.Written.{written-sound}
