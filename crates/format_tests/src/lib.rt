@@ -11,59 +11,54 @@ mod tests {
     use std::alloc::Global;
     use std::test::*;
 
-    const DESIGN: [i64; 16] = [2, 110, 100, 90, 20, 0, 95, 0, 10, 50, 50, 2, 2, 7, 2, 1];
+    const PLANT: [i64; 11] = [2, 110, 100, 90, 20, 0, 95, 0, 10, 50, 50];
 
-    const SET: [i64; 13] = [4, 1, 0, 21, -1, 0, 21, 0, 1, 8, 0, -1, 8];
+    const LAW: [i64; 5] = [2, 2, 7, 2, 1];
 
-    const SHEET: [i64; 41] = [
-        1,
-        180,
-        0,
-        40,
-        0,
-        0,
-        180,
-        0,
-        40,
-        0,
-        20,
-        120,
-        0,
-        20,
-        0,
-        0,
-        120,
-        2,
-        0,
-        7,
-        0,
-        0,
-        2,
-        0,
-        7,
-        1,
-        0,
-        0,
-        0,
-        0,
-        1,
-        0,
-        0,
-        0,
-        0,
-        1,
-        0,
-        0,
-        0,
-        0,
-        1,
+    const FACES: [[i64; 3]; 4] = [[1, 0, 21], [-1, 0, 21], [0, 1, 8], [0, -1, 8]];
+
+    const MULTIPLIERS: [[i64; 4]; 10] = [
+        [180, 0, 40, 0],
+        [0, 180, 0, 40],
+        [0, 20, 120, 0],
+        [20, 0, 0, 120],
+        [2, 0, 7, 0],
+        [0, 2, 0, 7],
+        [1, 0, 0, 0],
+        [0, 1, 0, 0],
+        [0, 0, 1, 0],
+        [0, 0, 0, 1],
     ];
 
-    // The bytes of a row of numbers.
-    fn document(heap: Global, numbers: &[i64]) -> Result<Vec<u8>, AllocError> {
-        let mut bytes = Vec::new(heap);
+    // The bytes of the numbers, after what is there already.
+    fn add(bytes: &mut Vec<u8>, numbers: &[i64]) -> Result<(), AllocError> {
         for x in numbers {
             bytes.extend_from_slice(&x.to_le_bytes())?;
+        }
+        Ok(())
+    }
+
+    fn head_design(heap: Global) -> Result<Vec<u8>, AllocError> {
+        let mut bytes = Vec::new(heap);
+        add(&mut bytes, &PLANT)?;
+        add(&mut bytes, &LAW)?;
+        Ok(bytes)
+    }
+
+    fn head_set(heap: Global) -> Result<Vec<u8>, AllocError> {
+        let mut bytes = Vec::new(heap);
+        add(&mut bytes, &[4])?;
+        for face in &FACES {
+            add(&mut bytes, face)?;
+        }
+        Ok(bytes)
+    }
+
+    fn head_sheet(heap: Global) -> Result<Vec<u8>, AllocError> {
+        let mut bytes = Vec::new(heap);
+        add(&mut bytes, &[1])?;
+        for row in &MULTIPLIERS {
+            add(&mut bytes, row)?;
         }
         Ok(bytes)
     }
@@ -71,9 +66,9 @@ mod tests {
     #[test]
     fn the_worked_head_reads_and_writes_back(rt: LibcRuntime) -> Result<(), Fail> {
         let heap = rt.alloc();
-        let design = document(heap, &DESIGN)?;
-        let set = document(heap, &SET)?;
-        let sheet = document(heap, &SHEET)?;
+        let design = head_design(heap)?;
+        let set = head_set(heap)?;
+        let sheet = head_sheet(heap)?;
         match read_claim(design.as_slice(), set.as_slice(), sheet.as_slice()) {
             Ok(claim) => {
                 check_eq(claim.design.n, 2)?;
@@ -93,8 +88,9 @@ mod tests {
     #[test]
     fn a_wrong_length_comes_before_a_number_out_of_range(rt: LibcRuntime) -> Result<(), Fail> {
         let heap = rt.alloc();
-        let design = document(heap, &[7])?;
-        let set = document(heap, &SET)?;
+        let mut design = Vec::new(heap);
+        add(&mut design, &[7])?;
+        let set = head_set(heap)?;
         match read_claim(design.as_slice(), set.as_slice(), &[1, 2, 3]) {
             Err(
                 Refusal::Length {
