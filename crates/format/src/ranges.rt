@@ -3,9 +3,12 @@ ghost use mathlib.Core.Path.{_≡_};
 ghost use Prim.Native.Nat.{_+_, _*_, _/_, _≤_, _<_};
 ghost use lib.IntN.{pos, natAbs};
 ghost use Rattle.format.specs.Sizes.{most-numbers};
+ghost use Rattle.format.specs.Ranges.{from-to as fromTo};
 ghost use Rattle.format.specs.Layouts.{design-range as designRange, set-range as setRange, sheet-range as sheetRange};
 use crate::layout::Layout;
 use crate::range::Range;
+use crate::sizes::FACES;
+use crate::sizes::NUMBERS;
 
 /// What the ranges of a design's numbers depend on: its size, and the denominator that `off` has to be half of.
 #[derive(Clone, Copy)]
@@ -25,44 +28,30 @@ pub impl Layout for DesignLayout as LayoutOfDesign {
         let k = over_law + 1;
         let noise = k + n;
         if i < 1 {
-            Range { low: 1, high: 6 }
+            from_to(1, NUMBERS as i64)
         } else if i < 2 {
-            Range {
-                low: 1,
-                high: 30_000,
-            }
+            from_to(1, 30_000)
         } else if i < 3 {
-            Range {
-                low: 1,
-                high: 1_000,
-            }
+            from_to(1, 1_000)
         } else if i < off {
-            Range {
-                low: -2_000,
-                high: 2_000,
-            }
+            from_to(-2_000, 2_000)
         } else if i < over_law {
-            Range {
-                low: half_up(self.over),
-                high: 1_000_000,
-            }
+            from_to(half_up(self.over), 1_000_000)
         } else if i < k {
-            Range {
-                low: 1,
-                high: 1_000,
-            }
+            from_to(1, 1_000)
         } else if i < noise {
-            Range {
-                low: -2_000,
-                high: 2_000,
-            }
+            from_to(-2_000, 2_000)
         } else {
-            Range {
-                low: 0,
-                high: 1_000,
-            }
+            from_to(0, 1_000)
         }
     }
+}
+
+/// The range of the numbers from `low` to `high`.
+fn from_to(low: i64, high: i64) -> Range
+    ensures { λ r. ⌜ r ≡ fromTo low high ⌝ }
+{
+    Range { low, high }
 }
 
 /// Half of the size of `x`, rounded up.
@@ -85,17 +74,11 @@ pub impl Layout for SetLayout as LayoutOfSet {
 
     fn range(&self, i: usize) -> Range {
         if i < 1 {
-            Range { low: 1, high: 24 }
+            from_to(1, FACES as i64)
         } else if (i - 1) % (self.n + 1) < self.n {
-            Range {
-                low: -100,
-                high: 100,
-            }
+            from_to(-100, 100)
         } else {
-            Range {
-                low: 0,
-                high: 3_000_000,
-            }
+            from_to(0, 3_000_000)
         }
     }
 }
@@ -109,12 +92,9 @@ pub impl Layout for SheetLayout as LayoutOfSheet {
 
     fn range(&self, i: usize) -> Range {
         if i < 1 {
-            Range { low: 1, high: 100 }
+            from_to(1, 100)
         } else {
-            Range {
-                low: 0,
-                high: 500_000_000,
-            }
+            from_to(0, 500_000_000)
         }
     }
 }
