@@ -1,5 +1,5 @@
 -- Each number that the checker adds up is small, by the ranges of what it is made of.
-use Prim.Native.Nat.{ℕ, _+_, _*_, _≤_}
+use Prim.Native.Nat.{ℕ, _+_, _-_, _*_, _≤_}
 use native.Mathlib.Omega.{arith}
 use native.Mathlib.Nat.{mul-le-mul}
 use borrow.Author.Differences.{ints}
@@ -75,9 +75,12 @@ all-small r =
       number-left-small = omega (arith, r .scale-range);
       number-right-small = λ i. mixed-small r (r .v i) (r .v-range i);
       number-room-small = λ i. omega (arith, under-top r (r .v i) (r .v-range i));
-      number-limit-small = omega (arith, r .scale-range);
+      number-limit-small = λ i. omega (arith, mul-le-mul (r .scale-range) (less i));
     }
   where
+    less : (i : ℕ) → 30000 - r .noise i ≤ 30000
+    less i = omega arith
+
     factor : 2 * r .scale * r .over * r .over-law ≤ 200 * 1000 * 1000
     factor = let twice : 2 * r .scale ≤ 200 = omega (arith, r .scale-range) in mul-le-mul (mul-le-mul twice (r .over-range)) (r .over-law-range)
 

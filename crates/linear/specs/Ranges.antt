@@ -1,5 +1,5 @@
 -- The ranges of designs, sets and sheets, and each number that the checker adds up within them.
-use Prim.Native.Nat.{ℕ, _+_, _*_, _^_, _≤_, _<_}
+use Prim.Native.Nat.{ℕ, _+_, _-_, _*_, _^_, _≤_, _<_}
 use lib.IntN.{ℤ, pos, _+ℤ_, _-ℤ_, _*ℤ_, negℤ, natAbs}
 use Rattle.linear.specs.Vectors.{Vector, Matrix, dot, spread}
 
@@ -99,9 +99,9 @@ law-limit r = r .scale * r .over-law * r .limit
 abbrev pub number-room : Ranges → ℕ → ℤ
 number-room r i = dot (r .count) (r .v i) (r .top)
 
--- the range of a number, which that may not pass; the noise is taken from it
-abbrev pub number-limit : Ranges → ℕ
-number-limit r = r .scale * 30000
+-- the range of number i less its noise, which that may not pass
+abbrev pub number-limit : Ranges → ℕ → ℕ
+number-limit r i = r .scale * (30000 - r .noise i)
 
 -- less than 2 to the 62 in size, so that the sum or the difference of two such numbers fits 64 bits
 abbrev pub Small : ℤ → Type 0
@@ -128,4 +128,4 @@ pub record AllSmall (r : Ranges) : Type 0 where
   pub number-left-small : r .scale < 2 ^ 62
   pub number-right-small : (i j : ℕ) → Small (mixed r (r .v i) j)
   pub number-room-small : (i : ℕ) → Small (number-room r i)
-  pub number-limit-small : number-limit r < 2 ^ 62
+  pub number-limit-small : (i : ℕ) → number-limit r i < 2 ^ 62
