@@ -1,4 +1,4 @@
--- The bytes of one document whose sizes are known: as many as they say, and each number in its range.
+-- Documents whose sizes are known, and what the parts of a value have of their bytes.
 use mathlib.Core.Path.{_≡_}
 use mathlib.Core.List.{List}
 use Prim.Native.Nat.{ℕ, _+_, _*_, _/_, _%_, _≤_, _<_}
@@ -14,24 +14,27 @@ use Rattle.format.specs.Sizes.{most-numbers, most-faces, b-at, off-at, over-la
 use Rattle.format.specs.declared.design.Law.{Law}
 use Rattle.format.specs.declared.design.Plant.{Plant}
 
+-- bytes of a design of size n: as many as that needs, and each number in its range
 pub record DesignBytes (n : ℕ) (bytes : List ℕ) : Type 0 where
   pub sized : (1 ≤ n) × (n ≤ most-numbers)
   pub first : number bytes 0 ≡ pos n
   pub whole : length bytes ≡ 8 * design-count n
   pub ranged : AllIn (design-range n (number bytes 2)) bytes (design-count n)
 
+-- the same of a set of c faces
 pub record SetBytes (n c : ℕ) (bytes : List ℕ) : Type 0 where
   pub sized : (1 ≤ n) × (n ≤ most-numbers) × (1 ≤ c) × (c ≤ most-faces)
   pub first : number bytes 0 ≡ pos c
   pub whole : length bytes ≡ 8 * set-count n c
   pub ranged : AllIn (set-range n) bytes (set-count n c)
 
+-- the same of a sheet for such a set
 pub record SheetBytes (n c : ℕ) (bytes : List ℕ) : Type 0 where
   pub sized : (1 ≤ n) × (n ≤ most-numbers) × (1 ≤ c) × (c ≤ most-faces)
   pub whole : length bytes ≡ 8 * sheet-count n c
   pub ranged : AllIn sheet-range bytes (sheet-count n c)
 
--- the plant has the numbers of the design's bytes, and 0 past them
+-- the plant has its numbers of the design's bytes, and 0 past its size; and so for the other parts
 pub record PlantOf (n : ℕ) (bytes : List ℕ) (p : Plant) : Type 0 where
   pub over : number bytes 2 ≡ pos (p .over)
   pub a : (k : ℕ) → k < n * n → grid most-numbers (p .a .cells) (k / n) (k % n) ≡ number bytes (3 + k)

@@ -35,9 +35,11 @@ abbrev pub Fits : Option ℕ → List ℕ → Type 0
 Fits None bytes = 8 ≤ length bytes
 Fits (Some count) bytes = length bytes ≡ 8 * count
 
+-- the document has as many bytes as can be told
 abbrev pub Whole : Given → Type 0
 Whole g = Fits (g .extent) (g .bytes)
 
+-- each number that is asked for is in its range
 abbrev pub Ranged : Given → Type 0
 Ranged g = AllIn (g .ranges) (g .bytes) (asked (g .extent))
 
@@ -58,20 +60,24 @@ pub record FirstOut (ranges : ℕ → Range) (bytes : List ℕ) (count : ℕ) (p
 abbrev pub FirstNumber : Document → Given → Refusal → Type 0
 FirstNumber d g e = (place : ℕ) × (e ≡ OutOfRange d place) × FirstOut (g .ranges) (g .bytes) (asked (g .extent)) place
 
+-- the order of the documents
 abbrev pub rank : Document → ℕ
 rank Design = 0
 rank Set = 1
 rank Sheet = 2
 
+-- the document is the first with a wrong length
 pub record LengthFault (given : Document → Given) (d : Document) (place : ℕ) : Type 0 where
   pub before : (e : Document) → rank e < rank d → Whole (given e)
   pub misfit : Misfit (given d .extent) (given d .bytes) place
 
+-- all lengths are right, and the document is the first with a number out of its range
 pub record RangeFault (given : Document → Given) (d : Document) (place : ℕ) : Type 0 where
   pub whole : (e : Document) → Whole (given e)
   pub before : (e : Document) → rank e < rank d → Ranged (given e)
   pub first : FirstOut (given d .ranges) (given d .bytes) (asked (given d .extent)) place
 
+-- the refusal is of the first fault
 abbrev pub Refused : (Document → Given) → Refusal → Type 0
 Refused given (Length d place) = LengthFault given d place
 Refused given (OutOfRange d place) = RangeFault given d place

@@ -22,9 +22,11 @@ slot bytes b s =
 abbrev pub Each : Block → (ℕ → Type 0) → Type 0
 Each b P = (i j : ℕ) → i < b .rows → j < b .columns → P (place b i j)
 
+-- the bytes of number k are there
 abbrev pub Present : List ℕ → ℕ → Type 0
 Present bytes k = 8 * k + 8 ≤ length bytes
 
+-- number k is at most so much in size
 abbrev pub Small : ℕ → List ℕ → ℕ → Type 0
 Small bound bytes k = natAbs (number bytes k) ≤ bound
 
@@ -32,5 +34,6 @@ Small bound bytes k = natAbs (number bytes k) ≤ bound
 abbrev pub Numbers : ℕ → ℕ → (ℕ → Type 0) → Type 0
 Numbers base count P = (k : ℕ) → k < count → P (base + k)
 
+-- number k is 0 or more
 abbrev pub Above : List ℕ → ℕ → Type 0
 Above bytes k = pos 0 ≤ℤ number bytes k

@@ -8,7 +8,7 @@ ghost use Rattle.format.specs.Spelling.{Spells};
 use std::alloc::AllocError;
 use std::alloc::Global;
 
-/// What has a document, by the numbers of that.
+/// A value that is written as a document: how many numbers that has, and which.
 pub trait Numbered {
     ghost counts: { Self → ℕ };
 
