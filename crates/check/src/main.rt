@@ -1,6 +1,6 @@
 //! `check DESIGN SET SHEET`: reads three documents and says what they are, or why they are refused.
 use format::read::read_claim;
-use format::report::RefusalDisplay;
+use format::refusal::RefusalDisplay;
 use std::env;
 use std::error::AnyError;
 use std::fs;

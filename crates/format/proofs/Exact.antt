@@ -4,7 +4,7 @@ use mathlib.Core.List.{List}
 use Prim.Native.Nat.{ℕ, _<_}
 use native.Mathlib.Omega.{arith}
 use Rattle.format.specs.Refusals.{Given, Misfit, FirstOut, LengthFault, RangeFault, Refused, Sound, asked, rank}
-use Rattle.format.specs.declared.range.Range.{Range}
+use Rattle.format.specs.declared.layout.Range.{Range}
 use Rattle.format.specs.declared.refusal.Document.{Document}
 use Rattle.format.specs.declared.refusal.Document.the-variants.{Design, Set, Sheet}
 use Rattle.format.specs.declared.refusal.Refusal.{Refusal}

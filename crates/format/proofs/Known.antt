@@ -19,7 +19,7 @@ use Rattle.format.specs.Ranges.{AllIn}
 use Rattle.format.specs.Reading.{size, claim-given}
 use Rattle.format.specs.Refusals.{Sound, Fits, asked}
 use Rattle.format.specs.Sizes.{most-numbers, most-faces, design-count}
-use Rattle.format.specs.declared.range.Range.{Range}
+use Rattle.format.specs.declared.layout.Range.{Range}
 use Rattle.format.specs.declared.refusal.Document.the-variants.{Design, Set, Sheet}
 
 -- what a size that is told says

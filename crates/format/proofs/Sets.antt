@@ -18,7 +18,7 @@ use Rattle.format.specs.Sizes.{most-numbers, most-faces, set-count}
 use Rattle.format.specs.Slots.{Each, Present, Small, slot}
 use Rattle.format.specs.Spelling.{Spells}
 use Rattle.format.specs.Values.{set-number}
-use Rattle.format.specs.declared.blocks.Block.{Block}
+use Rattle.format.specs.declared.block.Block.{Block}
 use Rattle.format.specs.declared.faces.Faces.{Faces}
 use Rattle.format.proofs.Chains.{part}
 use Rattle.format.proofs.Tables.{slot-at, block-blank, block-above}

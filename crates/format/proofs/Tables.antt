@@ -17,7 +17,7 @@ use Rattle.linear.specs.Tables.{at}
 use Rattle.format.specs.Blocks.{Blank}
 use Rattle.format.specs.Numbers.{number}
 use Rattle.format.specs.Slots.{slot, place, Each, Small, Above, Numbers}
-use Rattle.format.specs.declared.blocks.Block.{Block}
+use Rattle.format.specs.declared.block.Block.{Block}
 
 pub slot-small : (bytes : List ℕ) (b : Block) (bound : ℕ) → Each b (Small bound bytes) → (s : ℕ) → natAbs (slot bytes b s) ≤ bound
 slot-small bytes b bound small s =

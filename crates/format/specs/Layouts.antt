@@ -5,7 +5,7 @@ use lib.Dec.{ltb}
 use lib.IntN.{ℤ, pos, negsuc, natAbs}
 use Rattle.format.specs.Ranges.{from-to}
 use Rattle.format.specs.Sizes.{most-numbers, most-faces, off-at, over-law-at, k-at, noise-at}
-use Rattle.format.specs.declared.range.Range.{Range}
+use Rattle.format.specs.declared.layout.Range.{Range}
 
 abbrev pub within-2000 : Range
 within-2000 = from-to (negsuc 1999) (pos 2000)

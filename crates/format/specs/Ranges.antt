@@ -4,7 +4,7 @@ use Prim.Native.Nat.{ℕ, _<_}
 use lib.IntN.{ℤ}
 use lib.Signed.{_≤ℤ_}
 use Rattle.format.specs.Numbers.{number}
-use Rattle.format.specs.declared.range.Range.{Range}
+use Rattle.format.specs.declared.layout.Range.{Range}
 
 abbrev pub from-to : ℤ → ℤ → Range
 from-to a b = record { low = a; high = b }

@@ -6,7 +6,7 @@ use lib.ListN.{length}
 use Rattle.std.specs.declared.option.Option.{Option}
 use Rattle.std.specs.declared.option.Option.the-variants.{Some, None}
 use Rattle.format.specs.Ranges.{AllIn, Out}
-use Rattle.format.specs.declared.range.Range.{Range}
+use Rattle.format.specs.declared.layout.Range.{Range}
 use Rattle.format.specs.declared.refusal.Document.{Document}
 use Rattle.format.specs.declared.refusal.Document.the-variants.{Design, Set, Sheet}
 use Rattle.format.specs.declared.refusal.Refusal.{Refusal}

@@ -7,7 +7,7 @@ use lib.ListN.{length}
 use lib.Signed.{_≤ℤ_}
 use Rattle.format.specs.Blocks.{used}
 use Rattle.format.specs.Numbers.{number}
-use Rattle.format.specs.declared.blocks.Block.{Block}
+use Rattle.format.specs.declared.block.Block.{Block}
 
 -- the number of the document that stands in row i and column j of the block
 abbrev pub place : Block → ℕ → ℕ → ℕ

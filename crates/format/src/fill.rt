@@ -5,10 +5,10 @@ ghost use Rattle.format.specs.Parts.{DesignBytes, SetBytes, SheetBytes, PlantO
 ghost use Rattle.format.specs.Sizes.{most-faces, design-count as designCount, set-count as setCount, sheet-count as sheetCount};
 ghost use Rattle.format.specs.Spelling.{Spells};
 ghost use Rattle.format.specs.Values.{design-number as designNumber, set-number as setNumber, sheet-number as sheetNumber};
-use crate::block::read_block;
-use crate::block::read_grid;
-use crate::block::read_row;
-use crate::blocks::Block;
+use crate::block::Block;
+use crate::cells::read_block;
+use crate::cells::read_grid;
+use crate::cells::read_row;
 use crate::certificate::Certificate;
 use crate::design::Design;
 use crate::design::Law;

@@ -2,10 +2,16 @@
 ghost use mathlib.Core.Path.{_≡_};
 ghost use Prim.Native.Nat.{ℕ, _*_, _≤_, _<_};
 ghost use lib.ListN.{length};
-ghost use Rattle.format.specs.declared.range.Range.{Range};
+ghost use Rattle.format.specs.declared.layout.Range.{Range};
 ghost use Rattle.format.specs.Ranges.{AllIn, Out};
 use crate::number::number_at;
-use crate::range::Range;
+
+/// The numbers from `low` to `high`.
+#[derive(Clone, Copy)]
+pub struct Range {
+    pub low: i64,
+    pub high: i64,
+}
 
 /// The range of each number of a document.
 pub trait Layout {

@@ -6,7 +6,7 @@ ghost use Rattle.format.specs.Sizes.{most-numbers};
 ghost use Rattle.format.specs.Ranges.{from-to as fromTo};
 ghost use Rattle.format.specs.Layouts.{design-range as designRange, set-range as setRange, sheet-range as sheetRange};
 use crate::layout::Layout;
-use crate::range::Range;
+use crate::layout::Range;
 use crate::sizes::FACES;
 use crate::sizes::NUMBERS;
 

@@ -6,8 +6,8 @@ ghost use Rattle.format.specs.Sizes.{most-faces, design-count as designCount, 
 ghost use Rattle.format.specs.Values.{law-number as lawNumber, design-number as designNumber, set-number as setNumber, sheet-number as sheetNumber};
 use crate::certificate::Certificate;
 use crate::design::Design;
+use crate::document::Numbered;
 use crate::faces::Faces;
-use crate::numbered::Numbered;
 use crate::sizes::FACES;
 use crate::sizes::NUMBERS;
 use crate::sizes::design_count;

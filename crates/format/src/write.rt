@@ -8,8 +8,8 @@ ghost use Rattle.format.specs.Values.{design-number as designNumber, set-numbe
 use crate::certificate::Certificate;
 use crate::claim::Claim;
 use crate::design::Design;
+use crate::document::write;
 use crate::faces::Faces;
-use crate::numbered::write;
 use crate::values::NumbersOfCertificate;
 use crate::values::NumbersOfDesign;
 use crate::values::NumbersOfFaces;

@@ -8,7 +8,7 @@ use lib.ListN.{length, length-replicate, length-set}
 use Rattle.linear.proofs.Cells.{zeros-within, set-within, entries-more, narrowed}
 use Rattle.format.specs.Slots.{slot}
 use Rattle.format.proofs.Tables.{slot-small}
-use Rattle.format.proofs.block.read_block.Needs as need
+use Rattle.format.proofs.cells.read_block.Needs as need
 
 pub loop-s-holds : need.loop-s-holds
 loop-s-holds g c = (length-replicate (g .LEN) (pos 0), zeros-within _ _, λ k h. absurd (omega arith))

@@ -5,9 +5,9 @@ use native.Mathlib.Omega.{arith}
 use borrow.Author.Needs.{needs}
 use Rattle.std.proofs.shelf.Bits.{div-below, mul-add-lt}
 use Rattle.format.specs.Slots.{Present, Small, Above}
-use Rattle.format.specs.declared.blocks.Block.{Block}
+use Rattle.format.specs.declared.block.Block.{Block}
 use Rattle.format.proofs.Tables.{each-of-grid, slot-counted, block-blank, block-above}
-use Rattle.format.proofs.block.read_grid.Needs as need
+use Rattle.format.proofs.cells.read_grid.Needs as need
 
 pub read-block-requires : need.read-block-requires
 read-block-requires g c κs = (

@@ -3,7 +3,7 @@ use Prim.Native.Nat.{ℕ, _<_}
 use lib.ListN.{length}
 use Rattle.linear.specs.Tables.{at, Within}
 use Rattle.format.specs.Slots.{slot}
-use Rattle.format.proofs.block.read_block.Given as given
+use Rattle.format.proofs.cells.read_block.Given as given
 
 abbrev pub Inv-loop-s : given.InvT-loop-s
 Inv-loop-s g l =

@@ -4,7 +4,7 @@ use mir.Val.{SFits}
 use Rattle.std.proofs.shelf.Signed.{toZ-ofZ}
 use Rattle.std.specs.Of.Vec.{vec-items}
 use Rattle.format.proofs.Spelling.{spells-more}
-use Rattle.format.proofs.numbered.write.Needs as need
+use Rattle.format.proofs.document.write.Needs as need
 
 pub loop-i-again : need.loop-i-again
 loop-i-again g c =

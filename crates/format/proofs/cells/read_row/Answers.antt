@@ -5,9 +5,9 @@ use borrow.Author.Needs.{needs}
 use Rattle.linear.specs.Tables.{at}
 use Rattle.format.specs.Numbers.{number}
 use Rattle.format.specs.Slots.{Present, Small, Above}
-use Rattle.format.specs.declared.blocks.Block.{Block}
+use Rattle.format.specs.declared.block.Block.{Block}
 use Rattle.format.proofs.Tables.{each-of-row, slot-at, block-blank, block-above}
-use Rattle.format.proofs.block.read_row.Needs as need
+use Rattle.format.proofs.cells.read_row.Needs as need
 
 pub read-block-requires : need.read-block-requires
 read-block-requires g c κs = (

@@ -1,6 +1,6 @@
 use Prim.Native.Nat.{_/_, _%_}
 use native.Mathlib.Omega.{arith}
-use Rattle.format.proofs.block.slot.Needs as need
+use Rattle.format.proofs.cells.slot.Needs as need
 
 pub place-requires : need.place-requires
 place-requires c κs =

@@ -1,8 +1,0 @@
-//! The range of a number.
-
-/// The numbers from `low` to `high`.
-#[derive(Clone, Copy)]
-pub struct Range {
-    pub low: i64,
-    pub high: i64,
-}
