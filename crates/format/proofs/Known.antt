@@ -39,23 +39,25 @@ module _ (design set sheet : List ℕ) (n c : ℕ) (of-n : size most-numbers des
         ranged = subst Ranged of-n (sound .ranged Design);
       }
 
+  sizes : (1 ≤ n) × (n ≤ most-numbers) × (1 ≤ c) × (c ≤ most-faces)
+  sizes =
+      let of-state = size-told most-numbers design n of-n in
+      let of-faces = size-told most-faces set c of-c in
+      (of-state .0, of-state .1, of-faces .0, of-faces .1)
+
   pub set-known : SetBytes n c set
   set-known =
-      let n-told = size-told most-numbers design n of-n in
-      let c-told = size-told most-faces set c of-c in
       record {
-        sized = (n-told .0, n-told .1, c-told .0, c-told .1);
-        first = c-told .2;
+        sized = sizes;
+        first = size-told most-faces set c of-c .2;
         whole = simp (of-n, of-c) at (sound .whole Set);
         ranged = simp (of-n, of-c) at (sound .ranged Set);
       }
 
   pub sheet-known : SheetBytes n c sheet
   sheet-known =
-      let n-told = size-told most-numbers design n of-n in
-      let c-told = size-told most-faces set c of-c in
       record {
-        sized = (n-told .0, n-told .1, c-told .0, c-told .1);
+        sized = sizes;
         whole = simp (of-n, of-c) at (sound .whole Sheet);
         ranged = simp (of-n, of-c) at (sound .ranged Sheet);
       }

@@ -1,3 +1,4 @@
+pub mod Answers
 pub mod Back
 pub mod Chains
 pub mod Designs

@@ -10,7 +10,8 @@ use Rattle.format.specs.Blocks.{Blank}
 use Rattle.format.specs.Layouts.{design-range, set-range, sheet-range}
 use Rattle.format.specs.Numbers.{number}
 use Rattle.format.specs.Ranges.{AllIn}
-use Rattle.format.specs.Sizes.{most-numbers, most-faces, b-at, off-at, over-law-at, k-at, design-count, set-count, sheet-count}
+use Rattle.format.specs.Sizes.{most-numbers, most-faces, b-at, off-at, over-law-at, k-at, noise-at, w-at, v-at, design-count, set-count, sheet-count}
+use Rattle.format.specs.declared.claim.Claim.{Claim}
 use Rattle.format.specs.declared.design.Law.{Law}
 use Rattle.format.specs.declared.design.Plant.{Plant}
 
@@ -60,3 +61,18 @@ pub record MultipliersOf (base rows c : ℕ) (bytes : List ℕ) (xs : List ℤ) 
   pub each : (k : ℕ) → k < rows * c → grid most-faces xs (k / c) (k % c) ≡ number bytes (base + k)
   pub blank : Blank most-faces rows c xs
   pub above : (s : ℕ) → pos 0 ≤ℤ at xs s
+
+-- each part of the claim has its numbers of the bytes
+pub record Placed (design set sheet : List ℕ) (c : Claim) : Type 0 where
+  pub n : number design 0 ≡ pos (c .design .n)
+  pub limit : number design 1 ≡ pos (c .design .limit)
+  pub plant : PlantOf (c .design .n) design (c .design .plant)
+  pub law : LawOf (c .design .n) design (c .design .law)
+  pub noise : (k : ℕ) → k < c .design .n → at (c .design .noise .cells) k ≡ number design (noise-at (c .design .n) + k)
+  pub count : number set 0 ≡ pos (c .faces .count)
+  pub rows : RowsOf (c .faces .n) (c .faces .count) set (c .faces .h .cells)
+  pub tops : TopsOf (c .faces .n) (c .faces .count) set (c .faces .tops .cells)
+  pub scale : number sheet 0 ≡ pos (c .certificate .scale)
+  pub m : MultipliersOf 1 (c .faces .count) (c .faces .count) sheet (c .certificate .m .cells)
+  pub w : MultipliersOf (w-at (c .faces .count)) 2 (c .faces .count) sheet (c .certificate .w .cells)
+  pub v : MultipliersOf (v-at (c .faces .count)) (2 * c .design .n) (c .faces .count) sheet (c .certificate .v .cells)

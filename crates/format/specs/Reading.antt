@@ -1,4 +1,5 @@
 -- What is read of a design, a set and a sheet that are given together.
+use mathlib.Core.Path.{_≡_}
 use mathlib.Core.Bool.{cond, _&&_}
 use mathlib.Core.List.{List}
 use Prim.Native.Nat.{ℕ}
@@ -13,6 +14,7 @@ use Rattle.std.specs.declared.result.Result.{Result}
 use Rattle.std.specs.declared.result.Result.the-variants.{Ok, Err}
 use Rattle.format.specs.Layouts.{design-range, set-range, sheet-range}
 use Rattle.format.specs.Numbers.{number}
+use Rattle.format.specs.Parts.{Placed}
 use Rattle.format.specs.Refusals.{Given, Refused, Sound}
 use Rattle.format.specs.Sizes.{most-numbers, most-faces, design-count, set-count, sheet-count}
 use Rattle.format.specs.Spelling.{Spells}
@@ -64,3 +66,11 @@ pub record Holds (design set sheet : List ℕ) (c : Claim) : Type 0 where
 abbrev pub Reads : List ℕ → List ℕ → List ℕ → Result Claim Refusal → Type 0
 Reads design set sheet (Ok c) = Sound (claim-given design set sheet) × Holds design set sheet c
 Reads design set sheet (Err e) = Refused (claim-given design set sheet) e
+
+-- one answer only keeps that promise
+abbrev pub One-answer : Type 0
+One-answer = (design set sheet : List ℕ) (q r : Result Claim Refusal) → Reads design set sheet q → Reads design set sheet r → q ≡ r
+
+-- what a claim holds, part by part
+abbrev pub Places : Type 0
+Places = (design set sheet : List ℕ) (c : Claim) → Holds design set sheet c → Placed design set sheet c

@@ -1,5 +1,5 @@
 //! Reading a design, a set and a sheet that are given together.
-ghost use Rattle.format.specs.Reading.{Reads};
+ghost use Rattle.format.specs.Reading.{Reads, One-answer, Places};
 ghost use Rattle.format.specs.Refusals.{Exact};
 use crate::claim::Claim;
 use crate::fill::fill_certificate;
@@ -23,7 +23,10 @@ pub fn read_claim(design: &[u8], set: &[u8], sheet: &[u8]) -> Result<Claim, Refu
     })
 }
 
-/// Documents have one first fault at most, and sound ones have none: so that `read_claim` names the only one.
+/// Documents have one first fault at most and sound ones have none, so that one answer only keeps the promise of
+/// `read_claim`; and what a claim holds stands part by part where the documents have it.
 pub fn reading_is_exact()
-    ensures { λ _. ⌜ Exact ⌝ }
+    ensures exact { λ _. ⌜ Exact ⌝ }
+    ensures one_answer { λ _. ⌜ One-answer ⌝ }
+    ensures places { λ _. ⌜ Places ⌝ }
 {}

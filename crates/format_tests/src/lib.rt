@@ -45,19 +45,15 @@ mod tests {
         Ok(bytes)
     }
 
-    fn head_set(heap: Global) -> Result<Vec<u8>, AllocError> {
+    // A number, and then rows of numbers: a set or a sheet.
+    fn rows<const K: usize>(
+        heap: Global,
+        first: i64,
+        rows: &[[i64; K]],
+    ) -> Result<Vec<u8>, AllocError> {
         let mut bytes = Vec::new(heap);
-        add(&mut bytes, &[4])?;
-        for face in &FACES {
-            add(&mut bytes, face)?;
-        }
-        Ok(bytes)
-    }
-
-    fn head_sheet(heap: Global) -> Result<Vec<u8>, AllocError> {
-        let mut bytes = Vec::new(heap);
-        add(&mut bytes, &[1])?;
-        for row in &MULTIPLIERS {
+        add(&mut bytes, &[first])?;
+        for row in rows {
             add(&mut bytes, row)?;
         }
         Ok(bytes)
@@ -67,8 +63,8 @@ mod tests {
     fn the_worked_head_reads_and_writes_back(rt: LibcRuntime) -> Result<(), Fail> {
         let heap = rt.alloc();
         let design = head_design(heap)?;
-        let set = head_set(heap)?;
-        let sheet = head_sheet(heap)?;
+        let set = rows(heap, 4, &FACES)?;
+        let sheet = rows(heap, 1, &MULTIPLIERS)?;
         match read_claim(design.as_slice(), set.as_slice(), sheet.as_slice()) {
             Ok(claim) => {
                 check_eq(claim.design.n, 2)?;
@@ -90,7 +86,7 @@ mod tests {
         let heap = rt.alloc();
         let mut design = Vec::new(heap);
         add(&mut design, &[7])?;
-        let set = head_set(heap)?;
+        let set = rows(heap, 4, &FACES)?;
         match read_claim(design.as_slice(), set.as_slice(), &[1, 2, 3]) {
             Err(
                 Refusal::Length {
