@@ -1,4 +1,6 @@
 //! `check DESIGN SET SHEET`: reads three documents and says what they are, or why they are refused.
+#![tactic(auto)]
+
 use cli::{read_documents, refuse};
 use format::read::read_claim;
 

@@ -2,6 +2,8 @@
 //!
 //! No contract can speak of arguments and files, so what reads them promises nothing; `tests/cli.sh` holds it to what it
 //! should do.
+#![tactic(auto)]
+
 ghost use Rattle.std.specs.Prelude.{◌≡◌, false, is_ok};
 
 use anyhow::anyhow;

@@ -2,6 +2,8 @@
 //! beat.
 //!
 //! Whether a design keeps its set is left to the checker. Nothing here looks at the set.
+#![tactic(auto)]
+
 pub mod beat;
 pub mod outcome;
 pub mod report;

@@ -1,5 +1,7 @@
 //! Tests of the loop by its library calls, in a crate of their own so that `feedback` is proved once. What the programs
 //! can reach is tested at the programs; here it is what they cannot: slices of any length, any `i32`, any alarms.
+#![tactic(auto)]
+
 #[cfg(test)]
 mod alarms;
 #[cfg(test)]

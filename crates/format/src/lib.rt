@@ -3,6 +3,8 @@
 //! A document is a row of eight-byte numbers with a range for each; a recording has a row of readings beside a design and
 //! a set. This crate reads them, refuses the first fault, and writes documents; whether a sheet is good, and what is done
 //! with readings, is left to the crates above.
+#![tactic(auto)]
+
 mod beats;
 mod block;
 mod cells;

@@ -1,4 +1,6 @@
 //! Tests of `format` on whole documents, in a crate of their own so that `format` is proved once.
+#![tactic(auto)]
+
 #[cfg(test)]
 mod tests {
     use format::read::read_claim;

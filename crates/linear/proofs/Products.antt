@@ -66,11 +66,16 @@ step n l k m f g t a b s h =
     (e ∙ rw add-one (ap (λ u. u +ℤ f k *ℤ g k) s.0), subst (λ z. nat_abs z ≤ (k + 1) * m) (sym e) r.1)
 
 -- the total after the last turn, where the first factors are 0 from l on
-pub whole : (n l k m : ℕ) (f g : Vector) (t : ℤ) → k ≡ min n l → ((i : ℕ) → l ≤ i → f i ≡ pos 0) → Total k m f g t → (t ≡ dot n f g) × (nat_abs t ≤ min n l * m)
+pub whole : (n l k m : ℕ) (f g : Vector) (t : ℤ) → k ≡ min n l → ((i : ℕ) → l ≤ i → f i ≡ pos 0) → Total k m f g t →
+    (t ≡ dot n f g) × (nat_abs t ≤ n * m) × (nat_abs t ≤ min n l * m)
 whole n l k m f g t e none s = (
   s.0 ∙ ap (λ j. dot j f g) e ∙ sum_cut n l (λ i. f i *ℤ g i) (λ i h. ap (λ u. u *ℤ g i) (none i h) ∙ zero_times (g i)),
+  omega (arith, s.1, mul-le-mul_right m short),
   subst (λ j. nat_abs t ≤ j * m) e s.1,
 )
   where
     zero_times : (a : ℤ) → pos 0 *ℤ a ≡ pos 0
     zero_times a = omega (arith, ints)
+
+    short : k ≤ n
+    short = omega arith

@@ -2,7 +2,6 @@
 use Rattle.std.proofs.Common.{ℕ, ◌+◌, ◌-◌, ◌*◌, ◌≤◌, ℤ, pos, ◌*ℤ◌, neg_ℤ, nat_abs, mul-le-mul, arith}
 use borrow.Author.Differences.{ints}
 use Rattle.linear.specs.Ranges.{Ranges, AllSmall, Small, through_plant, through_law, law_off, off_by, added, tops, carried, mixed, law_left}
-use Rattle.linear.specs.Rows.{range}
 use Rattle.linear.specs.Vectors.{Vector, dot, spread}
 use Rattle.linear.proofs.Ring.{product_within, plus_within, minus_within}
 use Rattle.linear.proofs.SumLaws.{dot_within, spread_within}
@@ -76,7 +75,7 @@ all_small r =
       number_limit_small = λ i. omega (arith, mul-le-mul r.scale_range (less i));
     }
   where
-    less : (i : ℕ) → range - r.noise i ≤ range
+    less : (i : ℕ) → 30000 - r.noise i ≤ 30000
     less i = omega arith
 
     factor : 2 * r.scale * r.over * r.over_law ≤ 200 * 1000 * 1000

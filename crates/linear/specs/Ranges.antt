@@ -1,6 +1,5 @@
 -- The ranges of designs, sets and sheets, and each number that the checker adds up within them.
 use Rattle.std.specs.Prelude.{ℕ, ◌+◌, ◌-◌, ◌*◌, ◌^◌, ◌<◌, ◌≤◌, ℤ, pos, ◌+ℤ◌, ◌-ℤ◌, ◌*ℤ◌, neg_ℤ, unsigned_abs}
-use Rattle.linear.specs.Rows.{most_numbers, range}
 use Rattle.linear.specs.Vectors.{Vector, Matrix, dot, spread}
 
 -- a design of n numbers (plant a, b over over, law k over over_law, off and noise), a set of count faces h with their tops,
@@ -22,7 +21,7 @@ pub record Ranges : Type 0 where
   pub m : Matrix
   pub w : Matrix
   pub v : Matrix
-  pub n_range : n ≤ most_numbers
+  pub n_range : n ≤ 6
   pub count_range : count ≤ 24
   pub scale_range : scale ≤ 100
   pub over_range : over ≤ 1000
@@ -101,7 +100,7 @@ number_room r i = dot r.count (r.v i) r.top
 
 -- the range of number i less its noise, which that may not pass
 abbrev pub number_limit : Ranges → ℕ → ℕ
-number_limit r i = r.scale * (range - r.noise i)
+number_limit r i = r.scale * (30000 - r.noise i)
 
 -- less than 2 to the 62 in size, so that the sum or the difference of two such numbers fits 64 bits
 abbrev pub Small : ℤ → Type 0

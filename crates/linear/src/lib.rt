@@ -2,6 +2,8 @@
 //!
 //! What the numbers mean is left to the crates above. The laws of sums stand here once for all of them, and so does the
 //! promise that no sum within their ranges is too large.
+#![tactic(auto)]
+
 pub mod laws;
 pub mod row;
 pub mod sums;

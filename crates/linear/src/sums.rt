@@ -72,7 +72,8 @@ fn products<const L: usize, const A: u32, const M: usize, const B: u32>(
 ) -> i64
     requires { (0 < p.step) × (L * (A * B) < 2 ^ 63) }
     ensures value { (u v : Vector) → line x.now.cells p.start p.step ≡ u → line y.now.cells q.start q.step ≡ v → result ≡ dot_of n u v }
-    ensures bound { unsigned_abs result ≤ min n L * (A * B) }
+    ensures bound { unsigned_abs result ≤ n * (A * B) }
+    ensures cut { unsigned_abs result ≤ min n L * (A * B) }
 {
     let mut total = 0i64;
     for k in 0..n.min(L) {
@@ -89,7 +90,8 @@ pub fn dot<const LEN: usize, const A: u32, const B: u32>(
 ) -> i64
     requires { LEN * (A * B) < 2 ^ 63 }
     ensures value { result ≡ dot_of n (entry_of x.now.cells) (entry_of y.now.cells) }
-    ensures bound { unsigned_abs result ≤ min n LEN * (A * B) }
+    ensures bound { unsigned_abs result ≤ n * (A * B) }
+    ensures cut { unsigned_abs result ≤ min n LEN * (A * B) }
 {
     products(n, x, Line::all(x), y, Line::all(y))
 }
@@ -103,7 +105,8 @@ pub fn row_dot<const LEN: usize, const A: u32, const STRIDE: usize, const B: u32
 ) -> i64
     requires { LEN * (A * B) < 2 ^ 63 }
     ensures value { result ≡ dot_of n (grid STRIDE table.now.cells i) (entry_of row.now.cells) }
-    ensures bound { unsigned_abs result ≤ min n LEN * (A * B) }
+    ensures bound { unsigned_abs result ≤ n * (A * B) }
+    ensures cut { unsigned_abs result ≤ min n LEN * (A * B) }
 {
     products(n, table, Line::row(table, STRIDE, i), row, Line::all(row))
 }
@@ -119,7 +122,8 @@ pub fn row_column<
 >(n: usize, x: &Table<L, A>, i: usize, y: &Table<M, B>, j: usize) -> i64
     requires { L * (A * B) < 2 ^ 63 }
     ensures value { result ≡ dot_of n (grid S x.now.cells i) (column_of T y.now.cells j) }
-    ensures bound { unsigned_abs result ≤ min n L * (A * B) }
+    ensures bound { unsigned_abs result ≤ n * (A * B) }
+    ensures cut { unsigned_abs result ≤ min n L * (A * B) }
 {
     products(n, x, Line::row(x, S, i), y, Line::column(y, T, j))
 }
@@ -133,7 +137,8 @@ pub fn spread<const LEN: usize, const A: u32, const B: u32>(
 ) -> i64
     requires { LEN * (A * B) < 2 ^ 63 }
     ensures value { result ≡ pos (spread_of n (entry_of x.now.cells) (λ i. unsigned_abs (entry_of y.now.cells i))) }
-    ensures bound { unsigned_abs result ≤ min n LEN * (A * B) }
+    ensures bound { unsigned_abs result ≤ n * (A * B) }
+    ensures cut { unsigned_abs result ≤ min n LEN * (A * B) }
 {
     let mut total = 0i64;
     for i in 0..n.min(LEN) {

@@ -1,4 +1,6 @@
 //! `run DESIGN SET READINGS`: runs the loop on recorded readings, and prints a line for each beat.
+#![tactic(auto)]
+
 use cli::{read_documents, refuse};
 use feedback::outcome::Outcome;
 use feedback::run::run;

@@ -2,6 +2,8 @@
 //! differs from it for too long is called bad (mid-value selection with persistence counts).
 //!
 //! What is done with the middle readings is left to the crates above.
+#![tactic(auto)]
+
 mod alarms;
 mod difference;
 pub mod laws;

@@ -12,6 +12,6 @@ returns c =
     let d = c.args.design.now in
     let bytes = c.args.readings.now in
     let after = c.beat.result in
-    let same : (s i : ℕ) → sent c.readings-of.result s i ≡ heard_at d.n bytes c.args.b s i =
-    λ s i. c.readings-of.ensures s i ∙ ap (λ (rest : List ℕ). heard d.n rest s i) (take_rest bytes (frame d.n * c.args.b)) in
+    let same : (s i : ℕ) → sent c.readings_of.result s i ≡ heard_at d.n bytes c.args.b s i =
+    λ s i. c.readings_of.ensures s i ∙ ap (λ (rest : List ℕ). heard d.n rest s i) (take_rest bytes (frame d.n * c.args.b)) in
     subst (λ (ys : Matrix). Comes d c.args.alarms ys after.0 after.1) (λ k s i. same s i k) c.beat.ensures.comes

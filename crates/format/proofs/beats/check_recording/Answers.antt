@@ -6,9 +6,9 @@ use Rattle.format.proofs.beats.check_recording.Goals as goal
 
 pub returns : goal.returns
 returns c =
-    let form = c.in-ok-check-form.ensures in
-    let n = c.in-ok-n.ensures in
-    let faces = c.in-ok-faces.ensures in
+    let form = c.in_ok-check_form.ensures in
+    let n = c.in_ok-n.ensures in
+    let faces = c.in_ok-faces.ensures in
     let Asked : Option ℕ → Type 0 = λ o. (once o (readings_check c.args.readings.now)).passes in (
       (form, (n.0, faces.0)),
       (

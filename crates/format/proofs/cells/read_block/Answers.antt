@@ -9,8 +9,8 @@ use Rattle.format.proofs.cells.read_block.Goals as goal
 pub loop-s-init : goal.loop-s-init
 loop-s-init g c = (length-replicate g.row.LEN (pos 0), zeros_within _ _, λ k h. absurd (omega arith))
 
-pub overflow-cast-cells : goal.overflow-cast-cells
-overflow-cast-cells g c =
+pub overflow_cast-cells : goal.overflow_cast-cells
+overflow_cast-cells g c =
     let small = slot_small _ c.args.block _ c.requires.small c.loop-s.s in
     omega (arith, ints, small, c.slot.ensures, c.requires.narrow)
 

@@ -5,8 +5,8 @@ use Rattle.format.specs.declared.block.Block.{Block}
 use Rattle.format.proofs.Tables.{each_of_grid, slot_counted, block_blank, block_above}
 use Rattle.format.proofs.cells.read_grid.Goals as goal
 
-pub read-block-requires : goal.read-block-requires
-read-block-requires g c = (
+pub read_block-requires : goal.read_block-requires
+read_block-requires g c = (
   search rules,
   (
     c.requires.room.1.1.1,
@@ -23,7 +23,7 @@ returns g c =
     let columns = c.args.columns in
     let stride = c.args.stride in
     let bytes = c.args.bytes.now in
-    let table = c.read-block.result in
+    let table = c.read_block.result in
     let b : Block = record { base = c.args.base; rows = rows; columns = columns; pitch = columns; stride = stride; apart = omega arith } in
     record {
       each = λ k l.
@@ -31,7 +31,7 @@ returns g c =
           let j : k % columns < columns = mod-lt k (omega arith) in
           let inside : k / columns * stride + k % columns < stride * rows = mul-add-lt (k / columns) stride (k % columns) rows r (omega arith) in
           let here : stride * (k / columns) + k % columns < g.row.LEN = omega arith in
-          c.read-block.ensures (stride * (k / columns) + k % columns) here ∙ slot_counted bytes b k (omega arith) refl (omega arith) l;
-      blank = block_blank bytes b g.row.LEN table.cells table.sized c.read-block.ensures;
-      above = λ all. block_above bytes b g.row.LEN table.cells table.sized c.read-block.ensures (each_of_grid _ _ _ (Above bytes) all);
+          c.read_block.ensures (stride * (k / columns) + k % columns) here ∙ slot_counted bytes b k (omega arith) refl (omega arith) l;
+      blank = block_blank bytes b g.row.LEN table.cells table.sized c.read_block.ensures;
+      above = λ all. block_above bytes b g.row.LEN table.cells table.sized c.read_block.ensures (each_of_grid _ _ _ (Above bytes) all);
     }

@@ -7,8 +7,8 @@ place-requires c =
     let there = c.requires (c.args.s / b.stride) (c.args.s % b.stride) (omega arith) (omega arith) in
     omega arith
 
-pub number-at-requires : goal.number-at-requires
-number-at-requires c =
+pub number_at-requires : goal.number_at-requires
+number_at-requires c =
     let b = c.args.block in
     let there = c.requires (c.args.s / b.stride) (c.args.s % b.stride) (omega arith) (omega arith) in
     omega (arith, c.place.ensures)

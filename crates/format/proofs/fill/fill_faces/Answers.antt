@@ -5,13 +5,13 @@ use Rattle.format.proofs.fill.fill_faces.Goals as goal
 
 pub returns : goal.returns
 returns c =
-    let rows = c.fill-rows-h.ensures in
-    let tops = c.fill-tops-tops.ensures in
+    let rows = c.fill_rows-h.ensures in
+    let tops = c.fill_tops-tops.ensures in
     let s : Faces = record {
       n = c.args.n;
       count = c.args.faces;
-      h = c.fill-rows-h.result;
-      tops = c.fill-tops-tops.result;
+      h = c.fill_rows-h.result;
+      tops = c.fill_tops-tops.result;
       sized = c.requires.sized;
       above = tops.above;
       blank = (rows.blank, tops.blank);

@@ -5,4 +5,4 @@ use Rattle.format.proofs.number.number_at.Goals as goal
 
 pub returns : goal.returns
 unfolding number
-returns c = to_z-of_z w64 _ (search rules) ∙ c.from-le-bytes.ensures
+returns c = to_z-of_z w64 _ (search rules) ∙ c.from_le_bytes.ensures

@@ -9,6 +9,6 @@ loop-i-preserved c =
     let inv = c.loop-i.invariant in
     let bytes = c.args.bytes.now in (
       length-set _ _ _ ∙ inv.0,
-      filled_more (λ (r : Reading). r.0) _ c.loop-i.row c.loop-i.i (spoken bytes c.args.c) c.reading-at.result (omega arith)
-          (c.reading-at.ensures ∙ ap (reading bytes) c.place.ensures) inv.1,
+      filled_more (λ (r : Reading). r.0) _ c.loop-i.row c.loop-i.i (spoken bytes c.args.c) c.reading_at.result (omega arith)
+          (c.reading_at.ensures ∙ ap (reading bytes) c.place.ensures) inv.1,
     )

@@ -12,7 +12,7 @@ pub returns-in-Ok : goal.returns-in-Ok
 returns-in-Ok c =
     let design = c.args.design.now in
     let told : size most_numbers design ≡ Some c.in-Some.n = sym c.in-Some.ensures.value in (
-      design_told (λ ranges count. AllIn ranges design count) design _ _ c.number-at.result told c.design_count.ensures (search rules) c.number-at.ensures c.in-Ok.ensures,
+      design_told (λ ranges count. AllIn ranges design count) design _ _ c.number_at.result told c.design_count.ensures (search rules) c.number_at.ensures c.in-Ok.ensures,
       (told, c.in-Some.ensures.bound.1),
     )
 
@@ -21,4 +21,4 @@ returns-in-Err c =
     let design = c.args.design.now in
     let told : size most_numbers design ≡ Some c.in-Some.n = sym c.in-Some.ensures.value in
     design_told (λ ranges count. (place : ℕ) × (c.in-Err.refusal ≡ OutOfRange Design place) × FirstOut ranges design count place)
-    design _ _ c.number-at.result told c.design_count.ensures (search rules) c.number-at.ensures c.in-Err.ensures
+    design _ _ c.number_at.result told c.design_count.ensures (search rules) c.number_at.ensures c.in-Err.ensures

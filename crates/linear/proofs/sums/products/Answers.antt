@@ -34,8 +34,8 @@ turn g c =
       right_fits = search rules;
     }
 
-pub overflow-add-total : goal.overflow-add-total
-overflow-add-total g c = step_fits _ _ _ _ _ _ _ _ _ c.loop-k.invariant (turn g c)
+pub overflow_add-total : goal.overflow_add-total
+overflow_add-total g c = step_fits _ _ _ _ _ _ _ _ _ c.loop-k.invariant (turn g c)
 
 pub loop-k-preserved : goal.loop-k-preserved
 loop-k-preserved g c = step _ _ _ _ _ _ _ _ _ c.loop-k.invariant (turn g c)
@@ -45,4 +45,4 @@ returns g c =
     let none = line_past c.args.x.now.cells c.args.p.start c.args.p.step g.row.L c.requires.0 (omega arith) in
     let down = line c.args.y.now.cells c.args.q.start c.args.q.step in
     let all = whole c.args.n g.row.L c.loop-k.k (g.row.A * g.row.B) _ down _ (omega arith) none c.loop-k.invariant in
-    record { value = λ u v p q. all.0 ∙ cc; bound = all.1 }
+    record { value = λ u v p q. all.0 ∙ cc; bound = all.1; cut = all.2 }

@@ -25,11 +25,11 @@ turn g c =
       right_fits = search rules;
     }
 
-pub overflow-mul-total : goal.overflow-mul-total
-overflow-mul-total g c = product_fits _ _ _ _ _ _ _ _ (turn g c)
+pub overflow_mul-total : goal.overflow_mul-total
+overflow_mul-total g c = product_fits _ _ _ _ _ _ _ _ (turn g c)
 
-pub overflow-add-total : goal.overflow-add-total
-overflow-add-total g c = step_fits _ _ _ _ _ _ _ _ _ c.loop-i.invariant (turn g c)
+pub overflow_add-total : goal.overflow_add-total
+overflow_add-total g c = step_fits _ _ _ _ _ _ _ _ _ c.loop-i.invariant (turn g c)
 
 pub loop-i-preserved : goal.loop-i-preserved
 loop-i-preserved g c = step _ _ _ _ _ _ _ _ _ c.loop-i.invariant (turn g c)
@@ -42,4 +42,4 @@ returns g c =
     (λ i h. ap (λ z. pos (nat_abs z)) (get_or_past xs i (pos 0) (omega arith)))
     c.loop-i.invariant
     in
-    record { value = all.0 ∙ sym (sizes_sum c.args.n _); bound = all.1 }
+    record { value = all.0 ∙ sym (sizes_sum c.args.n _); bound = all.1; cut = all.2 }

@@ -9,4 +9,4 @@ returns g c =
     let same : to_z w32 (of_z w32 c.entry.result) ≡ c.entry.result = omega (arith, ints) in
     let place = c.args.self.start + c.args.self.step * c.args.k in
     same ∙ c.entry.ensures
-    ∙ capped c.args.table.now.cells c.saturating-add.result place 18446744073709551615 (omega arith) (omega arith)
+    ∙ capped c.args.table.now.cells c.saturating_add.result place 18446744073709551615 (omega arith) (omega arith)

@@ -7,6 +7,6 @@ use Rattle.linear.proofs.sums.Line.row.Goals as goal
 pub returns : goal.returns
 returns g c =
     record {
-      along = fun_ext (grid_row c.args.table.now.cells c.args.stride c.args.i _ 18446744073709551615 (omega arith) c.saturating-mul.ensures);
+      along = fun_ext (grid_row c.args.table.now.cells c.args.stride c.args.i _ 18446744073709551615 (omega arith) c.saturating_mul.ensures);
       moves = omega arith;
     }
