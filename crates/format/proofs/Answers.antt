@@ -1,16 +1,18 @@
 -- Reading has one answer, and a claim read is one whose parts are where the documents have them.
-use Rattle.std.proofs.Common.{◌≡◌, ℕ, List, Result, arith}
+use Rattle.std.proofs.Common.{◌≡◌, ℕ, List, Ok, Err, Result, ap, arith}
 use Rattle.format.specs.Parts.{Placed}
-use Rattle.format.specs.Reading.{Holds, Reads, claim_check}
+use Rattle.format.specs.Reading.{Holds, Reads, claim_given}
 use Rattle.format.specs.declared.claim.Claim.{Claim}
 use Rattle.format.specs.declared.refusal.Refusal.{Refusal}
 use Rattle.format.proofs.Back.{plant_of, law_of, noise_of, rows_back, tops_back, m_back, w_back, v_back}
-use Rattle.format.proofs.Checks.{one_result}
-use Rattle.format.proofs.Exact.{claim_exact}
+use Rattle.format.proofs.Exact.{same, never}
 use Rattle.format.proofs.Unique.{one_claim}
 
 pub one_answer : (design set sheet : List ℕ) (q r : Result Claim Refusal) → Reads design set sheet q → Reads design set sheet r → q ≡ r
-one_answer design set sheet = one_result (claim_check design set sheet) (Holds design set sheet) (claim_exact design set sheet) (one_claim design set sheet)
+one_answer design set sheet (Ok c) (Ok d) p q = ap Ok (one_claim design set sheet c d p.1 q.1)
+one_answer design set sheet (Ok c) (Err e) p q = absurd (never (claim_given design set sheet) e p.0 q)
+one_answer design set sheet (Err e) (Ok c) p q = absurd (never (claim_given design set sheet) e q.0 p)
+one_answer design set sheet (Err e) (Err f) p q = ap Err (same (claim_given design set sheet) e f p q)
 
 pub places : (design set sheet : List ℕ) (c : Claim) → Holds design set sheet c → Placed design set sheet c
 places design set sheet c h = record {

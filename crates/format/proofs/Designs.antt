@@ -2,7 +2,6 @@
 use Rattle.std.proofs.Common.{◌≡◌, ℕ, ◌+◌, ◌-◌, ◌/◌, ◌<◌, ◌≤◌, List, ℤ, pos, ◌*ℤ◌, nat_abs, ◌≤ℤ◌, sym, ap, ◌∙◌, arith}
 use borrow.Author.Differences.{ints}
 use Rattle.std.proofs.lemmas.Bool.Decides.{nat_tests}
-use Rattle.linear.specs.Rows.{most_numbers}
 use Rattle.linear.specs.Tables.{at}
 use Rattle.linear.specs.declared.table.Table.{Table}
 use Rattle.format.specs.Blocks.{Blank}
@@ -10,7 +9,7 @@ use Rattle.format.specs.Layouts.{design_range}
 use Rattle.format.specs.Numbers.{number}
 use Rattle.format.specs.Parts.{DesignBytes, PlantOf, LawOf}
 use Rattle.format.specs.Ranges.{In, from_to}
-use Rattle.format.specs.Sizes.{b_at, off_at, over_law_at, k_at, noise_at, design_count}
+use Rattle.format.specs.Sizes.{most_numbers, b_at, off_at, over_law_at, k_at, noise_at, design_count}
 use Rattle.format.specs.Spelling.{Spells}
 use Rattle.format.specs.Values.{law_number, design_number}
 use Rattle.format.specs.declared.design.Design.{Design}

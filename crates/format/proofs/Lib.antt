@@ -7,6 +7,7 @@ pub mod Exact
 pub mod Hearing
 pub mod Known
 pub mod OneRecording
+pub mod Order
 pub mod Ranged
 pub mod Same
 pub mod Sets

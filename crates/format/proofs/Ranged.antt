@@ -1,11 +1,10 @@
 -- The numbers of a value are in their ranges, by its type.
 use Rattle.std.proofs.Common.{ℕ, ◌+◌, ◌-◌, ◌/◌, ◌<◌, ◌≤◌, ltb, ℤ, pos, negsuc, nat_abs, ◌≤ℤ◌, arith}
 use borrow.Author.Differences.{ints}
-use Rattle.linear.specs.Rows.{most_numbers}
 use Rattle.linear.specs.Tables.{at}
 use Rattle.format.specs.Layouts.{design_range, set_range, sheet_range}
 use Rattle.format.specs.Ranges.{In, from_to}
-use Rattle.format.specs.Sizes.{most_faces, b_at, off_at, over_law_at, k_at, noise_at, w_at, v_at, design_count}
+use Rattle.format.specs.Sizes.{most_numbers, most_faces, b_at, off_at, over_law_at, k_at, noise_at, w_at, v_at, design_count}
 use Rattle.format.specs.Values.{design_number, set_number, sheet_number}
 use Rattle.format.specs.declared.certificate.Certificate.{Certificate}
 use Rattle.format.specs.declared.design.Design.{Design}

@@ -2,9 +2,8 @@
 use Rattle.std.proofs.Common.{◌≡◌, ℕ, ◌*◌, ◌<◌, ◌≤◌, ℤ, pos, ◌*ℤ◌, ◌≤ℤ◌}
 use mathlib.Core.HLevel.{is_prop→PathP}
 use denote.Struct.Props.{props}
-use Rattle.linear.specs.Rows.{most_numbers}
 use Rattle.linear.specs.Tables.{at}
-use Rattle.format.specs.Sizes.{most_faces}
+use Rattle.format.specs.Sizes.{most_numbers, most_faces}
 use Rattle.format.specs.Blocks.{Blank}
 use Rattle.format.specs.declared.certificate.Certificate.{Certificate}
 use Rattle.format.specs.declared.claim.Claim.{Claim}

@@ -3,13 +3,12 @@ use Rattle.std.proofs.Common.{◌≡◌, ℕ, ◌+◌, ◌-◌, ◌*◌, ◌/◌
 use borrow.Author.Differences.{ints}
 use Rattle.std.proofs.lemmas.Nat.{div-add-mod', div_below, mod-mul-add, mul-add-lt}
 use Rattle.std.proofs.lemmas.Bool.Decides.{nat_tests}
-use Rattle.linear.specs.Rows.{most_numbers}
 use Rattle.linear.specs.Tables.{at}
 use Rattle.format.specs.Layouts.{set_range}
 use Rattle.format.specs.Numbers.{number}
 use Rattle.format.specs.Parts.{SetBytes, RowsOf, TopsOf}
 use Rattle.format.specs.Ranges.{In, from_to}
-use Rattle.format.specs.Sizes.{most_faces, set_count}
+use Rattle.format.specs.Sizes.{most_numbers, most_faces, set_count}
 use Rattle.format.specs.Slots.{Each, Present, Small, slot}
 use Rattle.format.specs.Spelling.{Spells}
 use Rattle.format.specs.Values.{set_number}

@@ -5,14 +5,13 @@ use Rattle.std.proofs.lemmas.Nat.{div-add-mod', div-mul-add, mod-mul-add, mul-ad
 use Rattle.std.proofs.lemmas.List.{ext_get_or}
 use Rattle.std.proofs.lemmas.Bool.{cases_Bool}
 use Rattle.std.proofs.lemmas.Bool.Decides.{nat_tests}
-use Rattle.linear.specs.Rows.{most_numbers}
 use Rattle.linear.specs.Tables.{at, grid}
 use Rattle.linear.proofs.Cells.{same_table}
 use Rattle.format.specs.Blocks.{Blank, used}
 use Rattle.format.specs.Numbers.{number}
 use Rattle.format.specs.Parts.{PlantOf, LawOf, RowsOf, TopsOf, MultipliersOf}
 use Rattle.format.specs.Reading.{Holds}
-use Rattle.format.specs.Sizes.{most_faces, b_at, off_at, k_at, noise_at, w_at, v_at, design_count, set_count, sheet_count}
+use Rattle.format.specs.Sizes.{most_numbers, most_faces, b_at, off_at, k_at, noise_at, w_at, v_at, design_count, set_count, sheet_count}
 use Rattle.format.specs.Spelling.{Spells}
 use Rattle.format.specs.Values.{design_number, set_number, sheet_number}
 use Rattle.format.specs.declared.certificate.Certificate.{Certificate}

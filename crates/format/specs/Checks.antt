@@ -27,6 +27,6 @@ Passed c (Ok x) = c.passes
 Passed c (Err e) = c.fails e
 
 -- a check has one outcome: what passes does not fail, and what fails does so in one way
-pub record Exact {E : Type 0} (c : Check E) : Type 0 where
+pub record IsExact {E : Type 0} (c : Check E) : Type 0 where
   pub never : (e : E) → c.passes → c.fails e → ⊥
   pub same : (e f : E) → c.fails e → c.fails f → e ≡ f

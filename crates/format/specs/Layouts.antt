@@ -1,8 +1,7 @@
 -- The range of each number of a document.
 use Rattle.std.specs.Prelude.{ℕ, ◌+◌, ◌-◌, ◌/◌, ◌%◌, cond, ℤ, pos, negsuc, nat_lt, unsigned_abs}
-use Rattle.linear.specs.Rows.{most_numbers}
 use Rattle.format.specs.Ranges.{from_to}
-use Rattle.format.specs.Sizes.{most_faces, off_at, over_law_at, k_at, noise_at}
+use Rattle.format.specs.Sizes.{most_numbers, most_faces, off_at, over_law_at, k_at, noise_at}
 use Rattle.format.specs.declared.layout.Range.{Range}
 
 abbrev pub within_2000 : Range

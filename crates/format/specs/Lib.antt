@@ -1,5 +1,6 @@
 pub mod Blocks
 pub mod Checks
+pub mod Faults
 pub mod Layouts
 pub mod Numbers
 pub mod Parts

@@ -1,12 +1,11 @@
 -- Documents whose sizes are known, and what the parts of a value have of their bytes.
 use Rattle.std.specs.Prelude.{◌≡◌, ℕ, ◌+◌, ◌*◌, ◌/◌, ◌%◌, ◌<◌, ◌≤◌, List, length, ℤ, pos, ◌≤ℤ◌}
-use Rattle.linear.specs.Rows.{most_numbers}
 use Rattle.linear.specs.Tables.{at, grid}
 use Rattle.format.specs.Blocks.{Blank}
 use Rattle.format.specs.Layouts.{design_range, set_range, sheet_range}
 use Rattle.format.specs.Numbers.{number}
 use Rattle.format.specs.Ranges.{AllIn}
-use Rattle.format.specs.Sizes.{most_faces, b_at, off_at, over_law_at, k_at, noise_at, w_at, v_at, design_count, set_count, sheet_count}
+use Rattle.format.specs.Sizes.{most_numbers, most_faces, b_at, off_at, over_law_at, k_at, noise_at, w_at, v_at, design_count, set_count, sheet_count}
 use Rattle.format.specs.declared.claim.Claim.{Claim}
 use Rattle.law.specs.declared.gain.Law.{Law}
 use Rattle.format.specs.declared.design.Plant.{Plant}

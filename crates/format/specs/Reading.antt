@@ -1,16 +1,15 @@
 -- What is read of a design, a set and a sheet that are given together.
-use Rattle.std.specs.Prelude.{◌≡◌, ℕ, cond, ◌&&◌, List, length, pos, Some, None, Option, Result, int_le, nat_le, unsigned_abs}
+use Rattle.std.specs.Prelude.{◌≡◌, ℕ, cond, ◌&&◌, List, length, pos, Some, None, Ok, Err, Option, Result, int_le, nat_le, unsigned_abs}
 use Rattle.std.specs.Option.{option_map, unwrap_or}
-use Rattle.linear.specs.Rows.{most_numbers}
-use Rattle.format.specs.Checks.{Check, ◌next◌, Answers, Exact}
 use Rattle.format.specs.Layouts.{design_range, set_range, sheet_range}
 use Rattle.format.specs.Numbers.{number}
 use Rattle.format.specs.Parts.{Placed}
-use Rattle.format.specs.Refusals.{Given, length_of, ranges_of}
-use Rattle.format.specs.Sizes.{most_faces, design_count, set_count, sheet_count}
+use Rattle.format.specs.Refusals.{Given, Refused, Sound}
+use Rattle.format.specs.Sizes.{most_numbers, most_faces, design_count, set_count, sheet_count}
 use Rattle.format.specs.Spelling.{Spells}
 use Rattle.format.specs.Values.{design_number, set_number, sheet_number}
 use Rattle.format.specs.declared.claim.Claim.{Claim}
+use Rattle.format.specs.declared.refusal.Document.{Document}
 use Rattle.format.specs.declared.refusal.Document.TheVariants.{Design, Set, Sheet}
 use Rattle.format.specs.declared.refusal.Refusal.{Refusal}
 
@@ -30,24 +29,21 @@ both f (Some n) (Some c) = Some (f n c)
 abbrev pub design_given : List ℕ → Given
 design_given design =
     let n : Option ℕ = size most_numbers design in
-    record { document = Design; bytes = design; extent = option_map design_count n; ranges = design_range (unwrap_or n 0) (number design 2) }
+    record { bytes = design; extent = option_map design_count n; ranges = design_range (unwrap_or n 0) (number design 2) }
 
 abbrev pub set_given : List ℕ → List ℕ → Given
 set_given design set =
     let n : Option ℕ = size most_numbers design in
-    record { document = Set; bytes = set; extent = both set_count n (size most_faces set); ranges = set_range (unwrap_or n 0) }
+    record { bytes = set; extent = both set_count n (size most_faces set); ranges = set_range (unwrap_or n 0) }
 
 abbrev pub sheet_given : List ℕ → List ℕ → List ℕ → Given
 sheet_given design set sheet =
-    record { document = Sheet; bytes = sheet; extent = both sheet_count (size most_numbers design) (size most_faces set); ranges = sheet_range }
+    record { bytes = sheet; extent = both sheet_count (size most_numbers design) (size most_faces set); ranges = sheet_range }
 
--- the order of the checks: lengths before ranges, and either in the order of the documents
-abbrev pub claim_lengths : List ℕ → List ℕ → List ℕ → Check Refusal
-claim_lengths design set sheet = length_of (design_given design) next length_of (set_given design set) next length_of (sheet_given design set sheet)
-
-abbrev pub claim_check : List ℕ → List ℕ → List ℕ → Check Refusal
-claim_check design set sheet =
-    claim_lengths design set sheet next ranges_of (design_given design) next ranges_of (set_given design set) next ranges_of (sheet_given design set sheet)
+abbrev pub claim_given : List ℕ → List ℕ → List ℕ → Document → Given
+claim_given design set sheet Design = design_given design
+claim_given design set sheet Set = set_given design set
+claim_given design set sheet Sheet = sheet_given design set sheet
 
 -- the bytes are those of the claim, number by number
 pub record Holds (design set sheet : List ℕ) (c : Claim) : Type 0 where
@@ -55,13 +51,10 @@ pub record Holds (design set sheet : List ℕ) (c : Claim) : Type 0 where
   pub of_set : Spells set (set_count c.faces.n c.faces.count) (set_number c.faces)
   pub of_sheet : Spells sheet (sheet_count c.certificate.n c.certificate.count) (sheet_number c.certificate)
 
--- what reading answers: where the documents pass, the claim whose bytes they are, and else their first fault
+-- what reading answers: where the documents are sound, the claim whose bytes they are, and else their first fault
 abbrev pub Reads : List ℕ → List ℕ → List ℕ → Result Claim Refusal → Type 0
-Reads design set sheet = Answers (claim_check design set sheet) (Holds design set sheet)
-
--- documents have one first fault at most, and those that pass have none
-abbrev pub OneFault : Type 0
-OneFault = (design set sheet : List ℕ) → Exact (claim_check design set sheet)
+Reads design set sheet (Ok c) = Sound (claim_given design set sheet) × Holds design set sheet c
+Reads design set sheet (Err e) = Refused (claim_given design set sheet) e
 
 -- one answer only keeps that promise
 abbrev pub OneAnswer : Type 0

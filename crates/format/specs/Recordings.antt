@@ -5,16 +5,19 @@ use Rattle.std.proofs.Common.{to_z}
 use Rattle.linear.specs.Rows.{most_numbers}
 use Rattle.linear.specs.Vectors.{Vector, Matrix, filled}
 use Rattle.voter.specs.Sizes.{sensors}
-use Rattle.format.specs.Checks.{Check, ◌next◌, once, Answers, Exact}
+use Rattle.format.specs.Checks.{Check, ◌next◌, once, Answers, IsExact}
 use Rattle.format.specs.Reading.{size, design_given, set_given}
-use Rattle.format.specs.Refusals.{length_of, ranges_of}
+use Rattle.format.specs.Refusals.{Given, Whole, Ranged, Misfit, FirstNumber}
 use Rattle.format.specs.Sizes.{design_count, set_count}
 use Rattle.format.specs.Spelling.{Spells}
 use Rattle.format.specs.Values.{design_number, set_number}
 use Rattle.format.specs.declared.recorded.Recording.{Recording}
-use Rattle.format.specs.declared.refusal.Document.TheVariants.{Readings}
+use Rattle.format.specs.declared.fault.Fault.{Fault}
+use Rattle.format.specs.declared.fault.Fault.TheVariants.{Documents, Beats, Padding}
+use Rattle.format.specs.declared.refusal.Document.{Document}
+use Rattle.format.specs.declared.refusal.Document.TheVariants.{Design, Set}
 use Rattle.format.specs.declared.refusal.Refusal.{Refusal}
-use Rattle.format.specs.declared.refusal.Refusal.TheVariants.{Length, Padding}
+use Rattle.format.specs.declared.refusal.Refusal.TheVariants.{Length}
 
 -- the bytes of one reading
 abbrev pub width : ℕ
@@ -59,31 +62,48 @@ pub record FirstSpoilt (bytes : List ℕ) (place : ℕ) : Type 0 where
   pub padding : carried ≤ place % group
   pub wrong : slice_index_or bytes place 0 ≡ 0 → ⊥
 
+-- a document has as many bytes as can be told
+abbrev pub length_of : Document → Given → Check Refusal
+length_of d g = record { passes = Whole g; fails = λ e. (place : ℕ) × (e ≡ Length d place) × Misfit g.extent g.bytes place }
+
+-- each number that is asked for is in its range
+abbrev pub ranges_of : Document → Given → Check Refusal
+ranges_of d g = record { passes = Ranged g; fails = FirstNumber d g }
+
+-- a refusal of a document is a fault of the recording
+abbrev pub Among : (Refusal → Type 0) → Fault → Type 0
+Among Fails (Documents refusal) = Fails refusal
+Among Fails (Beats place) = ⊥
+Among Fails (Padding place) = ⊥
+
+abbrev pub within : Check Refusal → Check Fault
+within c = record { passes = c.passes; fails = Among c.fails }
+
 -- readings are whole beats
-abbrev pub beats_check : ℕ → List ℕ → Check Refusal
+abbrev pub beats_check : ℕ → List ℕ → Check Fault
 beats_check n readings = record {
   passes = length readings % frame n ≡ 0;
-  fails = λ e. (e ≡ Length Readings (length readings)) × (length readings % frame n ≢ 0);
+  fails = λ e. (e ≡ Beats (length readings)) × (length readings % frame n ≢ 0);
 }
 
 -- their padding is 0
-abbrev pub padding_check : List ℕ → Check Refusal
+abbrev pub padding_check : List ℕ → Check Fault
 padding_check readings = record {
   passes = Padded readings (length readings);
   fails = λ e. (place : ℕ) × (e ≡ Padding place) × FirstSpoilt readings place;
 }
 
-abbrev pub readings_check : List ℕ → ℕ → Check Refusal
+abbrev pub readings_check : List ℕ → ℕ → Check Fault
 readings_check readings n = beats_check n readings next padding_check readings
 
 -- the order of the checks: lengths, then padding, then ranges. Nothing is asked of the readings while n cannot be told
-abbrev pub recording_form : List ℕ → List ℕ → List ℕ → Check Refusal
+abbrev pub recording_form : List ℕ → List ℕ → List ℕ → Check Fault
 recording_form design set readings =
-    length_of (design_given design) next length_of (set_given design set) next once (size most_numbers design) (readings_check readings)
+    within (length_of Design (design_given design)) next within (length_of Set (set_given design set)) next once (size most_numbers design) (readings_check readings)
 
-abbrev pub recording_check : List ℕ → List ℕ → List ℕ → Check Refusal
+abbrev pub recording_check : List ℕ → List ℕ → List ℕ → Check Fault
 recording_check design set readings =
-    recording_form design set readings next ranges_of (design_given design) next ranges_of (set_given design set)
+    recording_form design set readings next within (ranges_of Design (design_given design)) next within (ranges_of Set (set_given design set))
 
 -- the bytes are those of the design and of the set, and of so many beats
 pub record Recorded (design set readings : List ℕ) (r : Recording) : Type 0 where
@@ -92,14 +112,14 @@ pub record Recorded (design set readings : List ℕ) (r : Recording) : Type 0 wh
   pub whole : r.beats * frame r.design.n ≡ length readings
 
 -- what reading answers: where the documents pass, what they record, and else their first fault
-abbrev pub Records : List ℕ → List ℕ → List ℕ → Result Recording Refusal → Type 0
+abbrev pub Records : List ℕ → List ℕ → List ℕ → Result Recording Fault → Type 0
 Records design set readings = Answers (recording_check design set readings) (Recorded design set readings)
 
 -- documents have one first fault at most, and those that pass have none
 abbrev pub OneFault : Type 0
-OneFault = (design set readings : List ℕ) → Exact (recording_check design set readings)
+OneFault = (design set readings : List ℕ) → IsExact (recording_check design set readings)
 
 -- one answer only keeps that promise
 abbrev pub OneAnswer : Type 0
 OneAnswer =
-    (design set readings : List ℕ) (q r : Result Recording Refusal) → Records design set readings q → Records design set readings r → q ≡ r
+    (design set readings : List ℕ) (q r : Result Recording Fault) → Records design set readings q → Records design set readings r → q ≡ r

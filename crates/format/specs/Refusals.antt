@@ -1,31 +1,42 @@
--- What a document is refused for: its length, or its first number that is out of its range.
+-- What documents are refused for: the first fault, lengths before ranges, and either in the order of the documents.
 use Rattle.std.specs.Prelude.{◌≡◌, ℕ, ◌*◌, ◌<◌, ◌≤◌, min, List, ◌++◌, length, Some, None, codes, decimal, Option}
-use Rattle.format.specs.Checks.{Check}
 use Rattle.format.specs.Ranges.{AllIn, Out}
 use Rattle.format.specs.declared.layout.Range.{Range}
 use Rattle.format.specs.declared.refusal.Document.{Document}
-use Rattle.format.specs.declared.refusal.Document.TheVariants.{Design, Set, Sheet, Readings}
+use Rattle.format.specs.declared.refusal.Document.TheVariants.{Design, Set, Sheet}
 use Rattle.format.specs.declared.refusal.Refusal.{Refusal}
-use Rattle.format.specs.declared.refusal.Refusal.TheVariants.{Length, Padding, Range as OutOfRange}
+use Rattle.format.specs.declared.refusal.Refusal.TheVariants.{Length, Range as OutOfRange}
 
--- a refusal's number and its place. A reading may be any number, so that none is refused for its range
+-- a refusal's number and its place
 abbrev pub report : Refusal → ℕ × ℕ
 report (Length d place) = (1, place)
-report (Padding place) = (1, place)
 report (OutOfRange Design place) = (2, place)
 report (OutOfRange Set place) = (3, place)
 report (OutOfRange Sheet place) = (4, place)
-report (OutOfRange Readings place) = (1, place)
+
+-- a document as it was given: its bytes, how many numbers it has once its sizes can be told, and the range of each
+pub record Given : Type 0 where
+  pub bytes : List ℕ
+  pub extent : Option ℕ
+  pub ranges : ℕ → Range
+
+-- how many numbers are asked for: while the extent cannot be told, the first alone
+abbrev pub asked : Option ℕ → ℕ
+asked None = 1
+asked (Some count) = count
 
 -- the bytes are as many as the extent says; while it cannot be told, enough for the first number
 abbrev pub Fits : Option ℕ → List ℕ → Type 0
 Fits None bytes = 8 ≤ length bytes
 Fits (Some count) bytes = length bytes ≡ 8 * count
 
--- how many numbers are asked for: while the extent cannot be told, the first alone
-abbrev pub asked : Option ℕ → ℕ
-asked None = 1
-asked (Some count) = count
+-- the document has as many bytes as can be told
+abbrev pub Whole : Given → Type 0
+Whole g = Fits g.extent g.bytes
+
+-- each number that is asked for is in its range
+abbrev pub Ranged : Given → Type 0
+Ranged g = AllIn g.ranges g.bytes (asked g.extent)
 
 -- the bytes end too early at the place, or go on from there
 pub record Misfit (extent : Option ℕ) (bytes : List ℕ) (place : ℕ) : Type 0 where
@@ -40,19 +51,42 @@ pub record FirstOut (ranges : ℕ → Range) (bytes : List ℕ) (count : ℕ) (p
   pub out : Out ranges bytes k
   pub here : place ≡ 8 * k
 
--- a document's length
-abbrev pub length_check : Document → Option ℕ → List ℕ → Check Refusal
-length_check d extent bytes = record {
-  passes = Fits extent bytes;
-  fails = λ e. (place : ℕ) × (e ≡ Length d place) × Misfit extent bytes place;
-}
+-- the refusal is that of the first number of the document that is out of its range
+abbrev pub FirstNumber : Document → Given → Refusal → Type 0
+FirstNumber d g e = (place : ℕ) × (e ≡ OutOfRange d place) × FirstOut g.ranges g.bytes (asked g.extent) place
 
--- the ranges of its first count numbers
-abbrev pub range_check : Document → (ℕ → Range) → List ℕ → ℕ → Check Refusal
-range_check d ranges bytes count = record {
-  passes = AllIn ranges bytes count;
-  fails = λ e. (place : ℕ) × (e ≡ OutOfRange d place) × FirstOut ranges bytes count place;
-}
+-- the order of the documents
+abbrev pub rank : Document → ℕ
+rank Design = 0
+rank Set = 1
+rank Sheet = 2
+
+-- the document is the first with a wrong length
+pub record LengthFault (given : Document → Given) (d : Document) (place : ℕ) : Type 0 where
+  pub before : (e : Document) → rank e < rank d → Whole (given e)
+  pub misfit : Misfit (given d).extent (given d).bytes place
+
+-- all lengths are right, and the document is the first with a number out of its range
+pub record RangeFault (given : Document → Given) (d : Document) (place : ℕ) : Type 0 where
+  pub whole : (e : Document) → Whole (given e)
+  pub before : (e : Document) → rank e < rank d → Ranged (given e)
+  pub first : FirstOut (given d).ranges (given d).bytes (asked (given d).extent) place
+
+-- the refusal is of the first fault
+abbrev pub Refused : (Document → Given) → Refusal → Type 0
+Refused given (Length d place) = LengthFault given d place
+Refused given (OutOfRange d place) = RangeFault given d place
+
+-- the documents have no fault
+pub record Sound (given : Document → Given) : Type 0 where
+  pub whole : (e : Document) → Whole (given e)
+  pub ranged : (e : Document) → Ranged (given e)
+
+-- documents are refused in one way at most, and sound ones in none
+abbrev pub Exact : Type 0
+Exact =
+    ((given : Document → Given) (e f : Refusal) → Refused given e → Refused given f → e ≡ f)
+    × ((given : Document → Given) (e : Refusal) → Sound given → Refused given e → ⊥)
 
 -- a refusal as it is printed
 abbrev pub refusal_line : ℕ → ℕ → List ℕ
@@ -61,18 +95,3 @@ refusal_line number place = codes "refused " ++ (decimal number ++ (codes " at "
 -- how many places of a refusal each sensor or face has, one for each number of the state and some to spare
 abbrev pub places : ℕ
 places = 8
-
--- a document as it was given: its bytes, how many numbers it has once its sizes can be told, and the range of each
-pub record Given : Type 0 where
-  pub document : Document
-  pub bytes : List ℕ
-  pub extent : Option ℕ
-  pub ranges : ℕ → Range
-
--- it has as many bytes as can be told
-abbrev pub length_of : Given → Check Refusal
-length_of g = length_check g.document g.extent g.bytes
-
--- each number that is asked for is in its range
-abbrev pub ranges_of : Given → Check Refusal
-ranges_of g = range_check g.document g.ranges g.bytes (asked g.extent)

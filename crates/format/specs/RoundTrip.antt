@@ -1,13 +1,14 @@
 -- Writing and reading undo each other.
 use Rattle.std.specs.Prelude.{◌≡◌, ℕ, List}
-use Rattle.format.specs.Reading.{Holds, claim_check}
+use Rattle.format.specs.Reading.{Holds, claim_given}
+use Rattle.format.specs.Refusals.{Sound}
 use Rattle.format.specs.Spelling.{Bytes}
 use Rattle.format.specs.declared.claim.Claim.{Claim}
 
--- the bytes of a claim pass, and those of no other claim
+-- the bytes of a claim are sound, and those of no other claim
 abbrev pub ReadsBack : Type 0
 ReadsBack =
-    (design set sheet : List ℕ) (c : Claim) → Holds design set sheet c → (claim_check design set sheet).passes × ((d : Claim) → Holds design set sheet d → d ≡ c)
+    (design set sheet : List ℕ) (c : Claim) → Holds design set sheet c → Sound (claim_given design set sheet) × ((d : Claim) → Holds design set sheet d → d ≡ c)
 
 -- a claim has no other bytes
 abbrev pub WritesBack : Type 0

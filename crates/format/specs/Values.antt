@@ -1,8 +1,7 @@
 -- What each number of a document is, for the values that it holds.
 use Rattle.std.specs.Prelude.{ℕ, ◌+◌, ◌-◌, ◌/◌, ◌%◌, cond, ℤ, pos, nat_lt}
-use Rattle.linear.specs.Rows.{most_numbers}
 use Rattle.linear.specs.Tables.{at, grid}
-use Rattle.format.specs.Sizes.{most_faces, b_at, off_at, over_law_at, k_at, noise_at, w_at, v_at}
+use Rattle.format.specs.Sizes.{most_numbers, most_faces, b_at, off_at, over_law_at, k_at, noise_at, w_at, v_at}
 use Rattle.format.specs.declared.design.Design.{Design}
 use Rattle.format.specs.declared.faces.Faces.{Faces}
 use Rattle.format.specs.declared.certificate.Certificate.{Certificate}

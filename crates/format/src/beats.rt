@@ -5,8 +5,9 @@ ghost use Rattle.format.specs.Checks.{Answers, Passed};
 ghost use Rattle.format.specs.Parts.{DesignBytes, SetBytes};
 ghost use Rattle.format.specs.Recordings.{frame, Padded, FirstSpoilt, readings_check, recording_form, recording_check};
 
+use crate::fault::Fault;
 use crate::faults::{Extents, fits, size};
-use crate::refusal::{Document, Refusal};
+use crate::refusal::Document;
 use crate::sizes::FACES;
 use crate::sound::{Sizes, check_design, check_set};
 use linear::row::NUMBERS;
@@ -30,25 +31,24 @@ fn first_spoilt(bytes: &[u8]) -> Option<usize>
 }
 
 /// That the readings are whole beats of a state of size `n` whose padding is 0, or where they are not.
-fn check_readings(readings: &[u8], n: usize) -> Result<(), Refusal>
+fn check_readings(readings: &[u8], n: usize) -> Result<(), Fault>
     requires { (1 ≤ n) × (n ≤ most_numbers) }
     ensures { Passed (readings_check readings.now n) result }
 {
     if readings.len() % (GROUP * n) != 0 {
-        return Err(Refusal::Length {
-            document: Document::Readings,
+        return Err(Fault::Beats {
             place: readings.len(),
         });
     }
     match first_spoilt(readings) {
-        Some(place) => Err(Refusal::Padding { place }),
+        Some(place) => Err(Fault::Padding { place }),
         None => Ok(()),
     }
 }
 
 /// That the design and the set are as long as the sizes in their first numbers say, and the readings in form, or the
 /// first fault of these.
-fn check_form(design: &[u8], set: &[u8], readings: &[u8]) -> Result<(), Refusal>
+fn check_form(design: &[u8], set: &[u8], readings: &[u8]) -> Result<(), Fault>
     ensures { Passed (recording_form design.now set.now readings.now) result }
 {
     let n = size(design, NUMBERS);
@@ -62,7 +62,7 @@ fn check_form(design: &[u8], set: &[u8], readings: &[u8]) -> Result<(), Refusal>
 }
 
 /// The sizes of the design and the set, or the first fault.
-pub(crate) fn check_recording(design: &[u8], set: &[u8], readings: &[u8]) -> Result<Sizes, Refusal>
+pub(crate) fn check_recording(design: &[u8], set: &[u8], readings: &[u8]) -> Result<Sizes, Fault>
     ensures { Answers (recording_check design.now set.now readings.now) (λ z. DesignBytes z.n design.now × SetBytes z.n z.faces set.now × (length readings.now % frame z.n ≡ 0)) result }
 {
     check_form(design, set, readings)?;

@@ -1,9 +1,8 @@
 //! The numbers of a sheet.
 ghost use Rattle.std.specs.Prelude.{ℕ, ◌*◌, ◌≤◌, pos, ◌≤ℤ◌};
-ghost use Rattle.linear.specs.Rows.{most_numbers};
 ghost use Rattle.linear.specs.Tables.{at as entry_of};
 ghost use Rattle.format.specs.Blocks.{Blank};
-ghost use Rattle.format.specs.Sizes.{most_faces};
+ghost use Rattle.format.specs.Sizes.{most_numbers, most_faces};
 
 use crate::sizes::{FACES_BY_FACES, SIGNED_NUMBERS_BY_FACES, SIGNS_BY_FACES};
 use linear::table::Table;

@@ -1,12 +1,11 @@
 //! A design: the plant, the law and their bounds.
 ghost use Rattle.std.specs.Prelude.{ℕ, ◌<◌, ◌≤◌, pos, ◌*ℤ◌, ◌≤ℤ◌};
-ghost use Rattle.linear.specs.Rows.{most_numbers};
 ghost use Rattle.linear.specs.Tables.{at as entry_of};
 ghost use Rattle.format.specs.Blocks.{Blank};
+ghost use Rattle.format.specs.Sizes.{most_numbers};
 
-use crate::sizes::NUMBERS_BY_NUMBERS;
-use law::Law;
-use linear::row::Row;
+use crate::sizes::{NUMBERS_BY_NUMBERS, Row};
+pub use law::Law;
 use linear::table::Table;
 
 /// What the state does: `over` times the next state is `a x + b u`, and off by at most `off`. Row `i` of `a` begins at

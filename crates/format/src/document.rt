@@ -21,7 +21,7 @@ pub trait Numbered {
 
 /// The bytes of a document.
 pub(crate) fn write<D: Numbered>(document: &D, heap: Global) -> Result<Vec<u8>, AllocError>
-    ensures { IfOk result (λ v. Spells v.items (counts document.now) (numbers document.now)) }
+    ensures { IfOk result (λ v. Spells v.items (D.counts document.now) (D.numbers document.now)) }
 {
     let mut bytes = Vec::new(heap);
     for i in 0..document.count() {

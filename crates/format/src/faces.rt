@@ -1,9 +1,8 @@
 //! A set of states, by its faces.
 ghost use Rattle.std.specs.Prelude.{ℕ, ◌≤◌, pos, ◌≤ℤ◌};
-ghost use Rattle.linear.specs.Rows.{most_numbers};
 ghost use Rattle.linear.specs.Tables.{at as entry_of};
 ghost use Rattle.format.specs.Blocks.{Blank};
-ghost use Rattle.format.specs.Sizes.{most_faces};
+ghost use Rattle.format.specs.Sizes.{most_numbers, most_faces};
 
 use crate::sizes::{FACES, FACES_BY_NUMBERS};
 use linear::table::Table;

@@ -1,11 +1,10 @@
 //! The first fault of documents that are given together.
-ghost use Rattle.std.specs.Prelude.{◌≡◌, ◌*◌, ◌^◌, ◌<◌, ◌≤◌, length, IfSome};
+ghost use Rattle.std.specs.Prelude.{◌≡◌, ℕ, ◌*◌, ◌^◌, ◌<◌, ◌≤◌, length, IfSome, MatchResult};
 ghost use Rattle.std.specs.Option.{option_map};
-ghost use Rattle.linear.specs.Rows.{most_numbers};
-ghost use Rattle.format.specs.Checks.{Passed};
-ghost use Rattle.format.specs.Refusals.{asked, length_check, range_check};
+ghost use Rattle.format.specs.Ranges.{AllIn};
+ghost use Rattle.format.specs.Refusals.{Fits, Misfit, FirstOut, asked};
 ghost use Rattle.format.specs.Reading.{both, size as size_of};
-ghost use Rattle.format.specs.Sizes.{most_faces, design_count, set_count, sheet_count};
+ghost use Rattle.format.specs.Sizes.{most_numbers, most_faces, design_count, set_count, sheet_count};
 
 use crate::layout::{Layout, first_out};
 use crate::number::number_at;
@@ -69,7 +68,7 @@ impl Extents {
 /// That the document is as long as its extent says, or where it ends too early or goes on.
 pub(crate) fn fits(document: Document, bytes: &[u8], extent: Option<usize>) -> Result<(), Refusal>
     requires { asked extent < 2 ^ 32 }
-    ensures { Passed (length_check document extent bytes.now) result }
+    ensures { MatchResult result (λ _. Fits extent bytes.now) (λ e. (place : ℕ) × (e ≡ Refusal.Length document place) × Misfit extent bytes.now place) }
 {
     let (least, whole) = match extent {
         None => (8, bytes.len() >= 8),
@@ -93,7 +92,7 @@ pub(crate) fn in_range<L: Layout>(
     count: usize,
 ) -> Result<(), Refusal>
     requires { 8 * count ≤ length bytes.now }
-    ensures { Passed (range_check document (ranges layout.now) bytes.now count) result }
+    ensures { MatchResult result (λ _. AllIn (L.ranges layout.now) bytes.now count) (λ e. (place : ℕ) × (e ≡ Refusal.Range document place) × FirstOut (L.ranges layout.now) bytes.now count place) }
 {
     let k = first_out(layout, bytes, count);
     if k < count {

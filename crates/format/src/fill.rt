@@ -8,12 +8,10 @@ ghost use Rattle.format.specs.Values.{design_number, set_number, sheet_number};
 use crate::block::Block;
 use crate::cells::{read_block, read_grid, read_row};
 use crate::certificate::Certificate;
-use crate::design::{Design, Plant};
+use crate::design::{Design, Law, Plant};
 use crate::faces::Faces;
 use crate::number::natural_at;
-use crate::sizes::{FACES, FACES_BY_NUMBERS};
-use law::Law;
-use linear::row::NUMBERS;
+use crate::sizes::{FACES, FACES_BY_NUMBERS, NUMBERS};
 use linear::table::Table;
 
 /// The plant of a design of size `n`.

@@ -24,8 +24,8 @@ pub trait Layout {
 pub(crate) fn first_out<L: Layout>(layout: &L, bytes: &[u8], count: usize) -> usize
     requires { 8 * count ≤ length bytes.now }
     ensures within { result ≤ count }
-    ensures before { AllIn (ranges layout.now) bytes.now result }
-    ensures found { result < count → Out (ranges layout.now) bytes.now result }
+    ensures before { AllIn (L.ranges layout.now) bytes.now result }
+    ensures found { result < count → Out (L.ranges layout.now) bytes.now result }
 {
     for i in 0..count {
         let range = layout.range(i);

@@ -13,6 +13,7 @@ pub mod claim;
 pub mod design;
 mod document;
 pub mod faces;
+mod fault;
 mod faults;
 mod fill;
 mod layout;

@@ -1,12 +1,11 @@
 //! The ranges of the three documents.
 ghost use Rattle.std.specs.Prelude.{◌≡◌, ◌+◌, ◌*◌, ◌/◌, ◌<◌, ◌≤◌, pos, unsigned_abs};
-ghost use Rattle.linear.specs.Rows.{most_numbers};
+ghost use Rattle.format.specs.Sizes.{most_numbers};
 ghost use Rattle.format.specs.Ranges.{from_to};
 ghost use Rattle.format.specs.Layouts.{design_range, set_range, sheet_range};
 
 use crate::layout::{Layout, Range};
-use crate::sizes::FACES;
-use linear::row::NUMBERS;
+use crate::sizes::{FACES, NUMBERS};
 
 /// What the ranges of a design's numbers depend on: its size, and the denominator that `off` has to be half of.
 #[derive(Clone, Copy)]

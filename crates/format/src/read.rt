@@ -1,5 +1,6 @@
 //! Reading a design, a set and a sheet that are given together.
-ghost use Rattle.format.specs.Reading.{Reads, OneFault, OneAnswer, Places};
+ghost use Rattle.format.specs.Reading.{Reads, OneAnswer, Places};
+ghost use Rattle.format.specs.Refusals.{Exact};
 
 use crate::claim::Claim;
 use crate::fill::{fill_certificate, fill_design, fill_faces};
@@ -21,10 +22,10 @@ pub fn read_claim(design: &[u8], set: &[u8], sheet: &[u8]) -> Result<Claim, Refu
     })
 }
 
-/// Documents have one first fault at most and those that pass have none, so that one answer only keeps the promise of
+/// Documents have one first fault at most and sound ones have none, so that one answer only keeps the promise of
 /// `read_claim`; and what a claim holds stands part by part where the documents have it.
 pub fn reading_is_exact()
-    ensures one_fault { OneFault }
+    ensures exact { Exact }
     ensures one_answer { OneAnswer }
     ensures places { Places }
 {}

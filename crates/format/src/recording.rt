@@ -7,8 +7,8 @@ ghost use Rattle.format.specs.Recordings.{group, width, reading as reading_of, h
 pub use crate::beats::GROUP;
 use crate::beats::check_recording;
 use crate::fill::{fill_design, fill_faces};
+pub use crate::fault::Fault;
 pub use crate::recorded::Recording;
-use crate::refusal::Refusal;
 use linear::row::NUMBERS;
 use voter::{Reading, Readings};
 
@@ -16,7 +16,7 @@ use voter::{Reading, Readings};
 const WIDTH: usize = 2;
 
 /// What the documents record, or their first fault.
-pub fn read_recording(design: &[u8], set: &[u8], readings: &[u8]) -> Result<Recording, Refusal>
+pub fn read_recording(design: &[u8], set: &[u8], readings: &[u8]) -> Result<Recording, Fault>
     ensures { Records design.now set.now readings.now result }
 {
     let sizes = check_recording(design, set, readings)?;

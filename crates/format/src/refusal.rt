@@ -1,6 +1,6 @@
 //! Why documents are refused, and where.
-ghost use Rattle.std.specs.Prelude.{◌≡◌, Some};
-ghost use Rattle.format.specs.Refusals.{refusal_line, report};
+ghost use Rattle.std.specs.Prelude.{◌≡◌, ◌++◌, Some, codes, decimal};
+ghost use Rattle.format.specs.Refusals.{report};
 
 use std::fmt;
 
@@ -13,7 +13,6 @@ pub enum Document {
     Design,
     Set,
     Sheet,
-    Readings,
 }
 
 /// The first fault of the documents. A place is a byte of its own document, counted from 0.
@@ -21,8 +20,6 @@ pub enum Document {
 pub enum Refusal {
     /// The bytes end too early, at `place`, or go on from there.
     Length { document: Document, place: usize },
-    /// The byte of the readings at `place` belongs to none of them, and is not 0.
-    Padding { place: usize },
     /// The number that begins at `place` is out of its range.
     Range { document: Document, place: usize },
 }
@@ -34,7 +31,6 @@ impl Refusal {
     {
         match self {
             Refusal::Length { .. } => 1,
-            Refusal::Padding { .. } => 1,
             Refusal::Range {
                 document: Document::Design,
                 ..
@@ -47,10 +43,6 @@ impl Refusal {
                 document: Document::Sheet,
                 ..
             } => 4,
-            Refusal::Range {
-                document: Document::Readings,
-                ..
-            } => 1,
         }
     }
 
@@ -60,14 +52,13 @@ impl Refusal {
     {
         match self {
             Refusal::Length { place, .. } => place,
-            Refusal::Padding { place } => place,
             Refusal::Range { place, .. } => place,
         }
     }
 }
 
 impl fmt::Display for Refusal {
-    ghost output = { λ e. Some (refusal_line (report e).0 (report e).1) };
+    ghost output = { λ e. Some (codes "refused " ++ (decimal (report e).0 ++ (codes " at " ++ decimal (report e).1))) };
 
     fn fmt<W: fmt::Write>(&self, f: &mut fmt::Formatter<W>) -> fmt::Result {
         let number = self.number();

@@ -1,9 +1,8 @@
 //! The largest sizes, those of the tables, and how many numbers the documents have.
 ghost use Rattle.std.specs.Prelude.{◌≡◌, ◌≤◌};
-ghost use Rattle.linear.specs.Rows.{most_numbers};
-ghost use Rattle.format.specs.Sizes.{most_faces, design_count, set_count, sheet_count};
+ghost use Rattle.format.specs.Sizes.{most_numbers, most_faces, design_count, set_count, sheet_count};
 
-use linear::row::NUMBERS;
+pub use linear::row::{NUMBERS, Row};
 
 /// The most faces of a set. The rows of a table over the faces are as far apart.
 pub const FACES: usize = 24;

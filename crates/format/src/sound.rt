@@ -1,18 +1,16 @@
 //! Whether a design, a set and a sheet that are given together can be read.
-ghost use Rattle.std.specs.Prelude.{◌≡◌, ◌≤◌, Some};
-ghost use Rattle.linear.specs.Rows.{most_numbers};
-ghost use Rattle.format.specs.Checks.{Answers, Passed};
-ghost use Rattle.format.specs.Refusals.{length_of, ranges_of};
+ghost use Rattle.std.specs.Prelude.{◌≡◌, ◌≤◌, Some, MatchResult};
+ghost use Rattle.format.specs.Refusals.{Sound, Refused, Whole, Ranged, FirstNumber};
 ghost use Rattle.format.specs.Parts.{DesignBytes, SetBytes, SheetBytes};
-ghost use Rattle.format.specs.Sizes.{most_faces};
-ghost use Rattle.format.specs.Reading.{claim_lengths, claim_check, design_given, set_given, sheet_given, size as size_of};
+ghost use Rattle.format.specs.Sizes.{most_numbers, most_faces};
+ghost use Rattle.format.specs.declared.refusal.Document.{Document};
+ghost use Rattle.format.specs.Reading.{claim_given as given, design_given, set_given, sheet_given, size as size_of};
 
 use crate::faults::{Extents, fits, in_range, size};
 use crate::number::number_at;
 use crate::ranges::{DesignLayout, SetLayout, SheetLayout};
 use crate::refusal::{Document, Refusal};
-use crate::sizes::{FACES, design_count, set_count, sheet_count};
-use linear::row::NUMBERS;
+use crate::sizes::{FACES, NUMBERS, design_count, set_count, sheet_count};
 
 /// The sizes of sound documents.
 #[derive(Clone, Copy)]
@@ -23,7 +21,7 @@ pub(crate) struct Sizes {
 
 /// That each document is as long as the sizes in the first numbers say, or the first that ends too early or goes on.
 fn check_lengths(design: &[u8], set: &[u8], sheet: &[u8]) -> Result<(), Refusal>
-    ensures { Passed (claim_lengths design.now set.now sheet.now) result }
+    ensures { MatchResult result (λ _. (e : Document) → Whole (given design.now set.now sheet.now e)) (Refused (given design.now set.now sheet.now)) }
 {
     let extents = Extents::of(size(design, NUMBERS), size(set, FACES));
     fits(Document::Design, design, extents.design)?;
@@ -33,8 +31,8 @@ fn check_lengths(design: &[u8], set: &[u8], sheet: &[u8]) -> Result<(), Refusal>
 
 /// The size of the state, or the first number of the design that is out of its range.
 pub(crate) fn check_design(design: &[u8]) -> Result<usize, Refusal>
-    requires { (length_of (design_given design.now)).passes }
-    ensures { Answers (ranges_of (design_given design.now)) (λ n. (size_of most_numbers design.now ≡ Some n) × (n ≤ most_numbers)) result }
+    requires { Whole (design_given design.now) }
+    ensures { MatchResult result (λ n. (size_of most_numbers design.now ≡ Some n) × (n ≤ most_numbers) × Ranged (design_given design.now)) (FirstNumber Document.Design (design_given design.now)) }
 {
     let Some(n) = size(design, NUMBERS) else {
         return Err(Refusal::Range {
@@ -55,8 +53,8 @@ pub(crate) fn check_design(design: &[u8]) -> Result<usize, Refusal>
 /// The count of faces, or the first number of the set that is out of its range.
 pub(crate) fn check_set(n: usize, design: &[u8], set: &[u8]) -> Result<usize, Refusal>
     requires sized { (size_of most_numbers design.now ≡ Some n) × (n ≤ most_numbers) }
-    requires whole { (length_of (set_given design.now set.now)).passes }
-    ensures { Answers (ranges_of (set_given design.now set.now)) (λ c. (size_of most_faces set.now ≡ Some c) × (c ≤ most_faces)) result }
+    requires whole { Whole (set_given design.now set.now) }
+    ensures { MatchResult result (λ c. (size_of most_faces set.now ≡ Some c) × (c ≤ most_faces) × Ranged (set_given design.now set.now)) (FirstNumber Document.Set (set_given design.now set.now)) }
 {
     let Some(faces) = size(set, FACES) else {
         return Err(Refusal::Range {
@@ -81,8 +79,8 @@ fn check_sheet(
 ) -> Result<(), Refusal>
     requires sized { (size_of most_numbers design.now ≡ Some n) × (n ≤ most_numbers) }
     requires counted { (size_of most_faces set.now ≡ Some faces) × (faces ≤ most_faces) }
-    requires whole { (length_of (sheet_given design.now set.now sheet.now)).passes }
-    ensures { Passed (ranges_of (sheet_given design.now set.now sheet.now)) result }
+    requires whole { Whole (sheet_given design.now set.now sheet.now) }
+    ensures { MatchResult result (λ _. Ranged (sheet_given design.now set.now sheet.now)) (FirstNumber Document.Sheet (sheet_given design.now set.now sheet.now)) }
 {
     let layout = SheetLayout;
     in_range(Document::Sheet, &layout, sheet, sheet_count(n, faces))
@@ -90,7 +88,7 @@ fn check_sheet(
 
 /// The sizes of the documents, or their first fault.
 pub(crate) fn check(design: &[u8], set: &[u8], sheet: &[u8]) -> Result<Sizes, Refusal>
-    ensures { Answers (claim_check design.now set.now sheet.now) (λ z. DesignBytes z.n design.now × SetBytes z.n z.faces set.now × SheetBytes z.n z.faces sheet.now) result }
+    ensures { MatchResult result (λ z. Sound (given design.now set.now sheet.now) × DesignBytes z.n design.now × SetBytes z.n z.faces set.now × SheetBytes z.n z.faces sheet.now) (Refused (given design.now set.now sheet.now)) }
 {
     check_lengths(design, set, sheet)?;
     let n = check_design(design)?;

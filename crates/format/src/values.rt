@@ -8,8 +8,7 @@ use crate::certificate::Certificate;
 use crate::design::Design;
 use crate::document::Numbered;
 use crate::faces::Faces;
-use crate::sizes::{FACES, design_count, set_count, sheet_count};
-use linear::row::NUMBERS;
+use crate::sizes::{FACES, NUMBERS, design_count, set_count, sheet_count};
 use linear::table::Table;
 
 /// Entry `k` of a table whose rows are `stride` apart, counted over the first `columns` of each row.

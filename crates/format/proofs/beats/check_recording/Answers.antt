@@ -10,10 +10,10 @@ returns c =
     let n = c.in_ok-n.ensures in
     let faces = c.in_ok-faces.ensures in
     let Asked : Option ℕ → Type 0 = λ o. (once o (readings_check c.args.readings.now)).passes in (
-      (form, (n.0, faces.0)),
+      (form, (n.2, faces.2)),
       (
-        design_known _ _ n.1.0 form.0 n.0,
-        set_known _ _ _ _ n.1.0 faces.1.0 form.1.0 faces.0,
-        (subst Asked n.1.0 form.1.1).0,
+        design_known _ _ n.0 form.0 n.2,
+        set_known _ _ _ _ n.0 faces.0 form.1.0 faces.2,
+        (subst Asked n.0 form.1.1).0,
       ),
     )

@@ -7,7 +7,7 @@ invariant_of-result c =
     let noise = c.read_row-noise.ensures in
     let d = whole_design _ _ _ _ _ c.read_row-noise.result c.requires c.natural_at-limit.ensures c.fill_plant-plant.ensures c.fill_law-law.ensures
     (record { each = noise.each; blank = noise.blank; above = noise.above }) in
-    (d.sized, (d.limited, (d.halved, (d.quiet, (d.blank, tt)))))
+    record { sized = d.sized; limited = d.limited; halved = d.halved; quiet = d.quiet; blank = d.blank }
 
 pub returns : goal.returns
 returns c =
