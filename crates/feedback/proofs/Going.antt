@@ -1,5 +1,5 @@
 -- Beats one after another, and the alarms over them.
-use Rattle.std.proofs.Common.{◌≡◌, ℕ, suc, ◌+◌, List, [], ◌∷◌, ◌++◌, length, refl, ap, ◌∙◌, subst, arith}
+use Rattle.std.proofs.Common.{ℕ, ◌+◌, List, [], ◌∷◌, ◌++◌, length, refl, subst, arith}
 use Rattle.voter.specs.declared.watch.Alarms.{Alarms}
 use Rattle.format.specs.declared.design.Design.{Design}
 use Rattle.feedback.specs.Beats.{Comes}

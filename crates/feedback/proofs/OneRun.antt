@@ -1,13 +1,12 @@
 -- Running a recording has one answer.
-use Rattle.std.proofs.Common.{◌≡◌, ℕ, ◌+◌, ◌≤◌, min, List, [], ◌∷◌, ◌++◌, length, take, drop, Ok, Err, Result, sym, refl, ap, ◌∙◌, subst, ap₂, arith}
+use Rattle.std.proofs.Common.{◌≡◌, ℕ, ◌+◌, ◌≤◌, min, List, [], ◌∷◌, ◌++◌, length, take, Ok, Err, Result, sym, refl, ap, ◌∙◌, subst, ap₂, arith}
 use Rattle.std.proofs.lemmas.List.{length-take-le, take-append-drop}
 use Rattle.voter.proofs.Same.{same_alarms}
 use Rattle.voter.specs.declared.watch.Alarms.{Alarms}
 use Rattle.format.proofs.OneRecording.{one_recorded, recording_exact}
 use Rattle.format.specs.declared.design.Design.{Design}
 use Rattle.format.specs.declared.recorded.Recording.{Recording}
-use Rattle.format.specs.declared.refusal.Refusal.{Refusal}
-use Rattle.feedback.specs.Beats.{Comes}
+use Rattle.format.specs.declared.fault.Fault.{Fault}
 use Rattle.feedback.specs.Runs.{Goes, Ran, Runs, Taken, heard_at}
 use Rattle.feedback.specs.declared.outcome.Outcome.{Outcome}
 use Rattle.feedback.proofs.Exact.{one_outcome}
@@ -40,7 +39,7 @@ module _ (design set readings : List ℕ) (before after after' : List Outcome) w
       let ran = subst (λ (k : ℕ). By p.recording.design k) (sym counts) (subst (λ (r : Recording). By r.design n) (sym same) q.ran) in
       (counts, one_ran p.recording.design readings m before after after' (omega (arith, p.counted)) p.ran ran)
 
-  pub one_run : (q r : Result ℕ Refusal) → Runs design set readings before after q → Runs design set readings before after' r → (q ≡ r) × (after ≡ after')
+  pub one_run : (q r : Result ℕ Fault) → Runs design set readings before after q → Runs design set readings before after' r → (q ≡ r) × (after ≡ after')
   one_run (Ok m) (Ok n) p q = let same = one_taken m n p q in (ap Ok same.0, same.1)
   one_run (Ok m) (Err e) p q = absurd ((recording_exact design set readings).never e p.passes q.0)
   one_run (Err e) (Ok n) p q = absurd ((recording_exact design set readings).never e q.passes p.0)

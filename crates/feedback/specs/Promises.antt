@@ -4,7 +4,7 @@ use Rattle.linear.specs.Vectors.{Vector, Matrix}
 use Rattle.voter.specs.Beats.{Counted, Refused, Sample, Steps}
 use Rattle.voter.specs.declared.watch.Alarms.{Alarms}
 use Rattle.format.specs.declared.design.Design.{Design}
-use Rattle.format.specs.declared.refusal.Refusal.{Refusal}
+use Rattle.format.specs.declared.fault.Fault.{Fault}
 use Rattle.feedback.specs.Beats.{Comes, sensors_of}
 use Rattle.feedback.specs.Runs.{Goes, Runs, heard_at}
 use Rattle.feedback.specs.declared.outcome.Outcome.{Outcome}
@@ -31,5 +31,5 @@ AlarmsRun =
 -- running a recording has one answer, and leaves one thing in the lent slice
 abbrev pub OneRun : Type 0
 OneRun =
-    (design set readings : List ℕ) (before after after' : List Outcome) (q r : Result ℕ Refusal) → Runs design set readings before after q →
+    (design set readings : List ℕ) (before after after' : List Outcome) (q r : Result ℕ Fault) → Runs design set readings before after q →
     Runs design set readings before after' r → (q ≡ r) × (after ≡ after')

@@ -3,11 +3,10 @@ use Rattle.std.specs.Prelude.{◌≡◌, ℕ, ◌+◌, ◌*◌, min, List, [], �
 use Rattle.linear.specs.Vectors.{Matrix}
 use Rattle.voter.specs.Counts.{Each, seen_of, unseen}
 use Rattle.voter.specs.declared.watch.Alarms.{Alarms}
-use Rattle.format.specs.Checks.{Check}
 use Rattle.format.specs.Recordings.{Recorded, frame, heard, recording_check}
 use Rattle.format.specs.declared.design.Design.{Design}
 use Rattle.format.specs.declared.recorded.Recording.{Recording}
-use Rattle.format.specs.declared.refusal.Refusal.{Refusal}
+use Rattle.format.specs.declared.fault.Fault.{Fault}
 use Rattle.feedback.specs.Beats.{Comes}
 use Rattle.feedback.specs.declared.outcome.Outcome.{Outcome}
 
@@ -38,6 +37,6 @@ pub record Taken (design set readings : List ℕ) (before after : List Outcome) 
   pub ran : Ran recording.design readings count before after
 
 -- what running a recording answers, and what the lent slice then holds
-abbrev pub Runs : List ℕ → List ℕ → List ℕ → List Outcome → List Outcome → Result ℕ Refusal → Type 0
+abbrev pub Runs : List ℕ → List ℕ → List ℕ → List Outcome → List Outcome → Result ℕ Fault → Type 0
 Runs design set readings before after (Ok count) = Taken design set readings before after count
 Runs design set readings before after (Err e) = (recording_check design set readings).fails e × (after ≡ before)

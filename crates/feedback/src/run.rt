@@ -8,8 +8,7 @@ ghost use Rattle.feedback.specs.Runs.{Ran, Runs, heard_at};
 use crate::beat::beat;
 use crate::outcome::Outcome;
 use format::design::Design;
-use format::recording::{GROUP, read_recording, readings_of};
-use format::refusal::Refusal;
+use format::recording::{Fault, GROUP, read_recording, readings_of};
 use voter::Alarms;
 
 /// Beat `b` of a recording.
@@ -37,12 +36,7 @@ fn run_beats(design: &Design, readings: &[u8], count: usize, out: &mut [Outcome]
 
 /// What each beat of a recording comes to, as many as there are readings for and room for: their number, or the
 /// documents' first fault.
-pub fn run(
-    design: &[u8],
-    set: &[u8],
-    readings: &[u8],
-    out: &mut [Outcome],
-) -> Result<usize, Refusal>
+pub fn run(design: &[u8], set: &[u8], readings: &[u8], out: &mut [Outcome]) -> Result<usize, Fault>
     ensures { Runs design.now set.now readings.now out.old out.new result }
 {
     let recording = read_recording(design, set, readings)?;

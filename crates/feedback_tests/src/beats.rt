@@ -20,9 +20,10 @@ fn comes(
     expected: [u8; 3],
 ) -> Result<(), Fail> {
     let (outcome, after) = beat(design, Alarms::new().note([true; 3]), readings);
-    prints(heap, outcome, line)?;
+    prints(rt, heap, outcome, line)?;
     assert_eq!(rt; after.bad(), [false; 3]);
-    counts(rt, after, expected).note(line)
+    assert_eq!(rt; counts(after), expected, "{line}");
+    Ok(())
 }
 
 // One sensor past the edge at most, and the counts.
@@ -188,7 +189,7 @@ fn a_bad_sensor_still_stands_among_the_three(rt: HostRuntime) -> Result<(), Fail
     for (differing, line) in BAD {
         for first in ORDERS {
             let (outcome, _) = beat(&design, after(40, differing), &sent(first, [0; 3]));
-            prints(heap, outcome, line)?;
+            prints(&rt, heap, outcome, line)?;
         }
     }
     Ok(())
@@ -211,8 +212,8 @@ fn a_refused_beat_leaves_the_alarms_as_they_were(rt: HostRuntime) -> Result<(), 
     for (first, line, expected, bad) in STEPS {
         let (outcome, next) = beat(&design, alarms, &sent(first, [0; 3]));
         alarms = next;
-        prints(heap, outcome, line)?;
-        counts(&rt, alarms, expected)?;
+        prints(&rt, heap, outcome, line)?;
+        assert_eq!(rt; counts(alarms), expected);
         assert_eq!(rt; alarms.bad(), [bad, false, false]);
     }
     Ok(())

@@ -2,8 +2,8 @@
 use crate::expect::{BEFORE, untouched};
 use crate::head::{design_bytes, recorded, set_bytes};
 use feedback::run::run;
-use format::refusal::Document;
 use std::alloc::Global;
+use std::process::Abort;
 use std::test::*;
 
 // The three documents, of 128, 104 and 36 bytes.
@@ -22,28 +22,43 @@ fn sound(heap: Global) -> Result<Documents, Fail> {
     })
 }
 
+// Which of them.
+#[derive(Clone, Copy)]
+enum Document {
+    Design,
+    Set,
+    Readings,
+}
+
 impl Documents {
     fn of(&mut self, document: Document) -> &mut Vec<u8> {
         match document {
             Document::Design => &mut self.design,
             Document::Set => &mut self.set,
-            Document::Sheet | Document::Readings => &mut self.readings,
+            Document::Readings => &mut self.readings,
         }
     }
 
-    // That they are refused so, and that no outcome is written.
-    fn refused(&self, heap: Global, number: u8, place: usize) -> Result<(), Fail> {
+    // That they are refused so, and that no outcome is written. The case is named where they are not.
+    fn refused(
+        &self,
+        rt: &impl Abort,
+        heap: Global,
+        number: u8,
+        place: usize,
+        case: usize,
+    ) -> Result<(), Fail> {
         let design = self.design.as_slice();
         let set = self.set.as_slice();
         let mut out = [BEFORE; 3];
         match run(design, set, self.readings.as_slice(), &mut out) {
             Ok(_) => return Err(Fail::new("it is run")),
             Err(refusal) => {
-                assert_eq!(refusal.number(), number);
-                assert_eq!(refusal.place(), place);
+                assert_eq!(rt; refusal.number(), number, "at {case}");
+                assert_eq!(rt; refusal.place(), place, "at {case}");
             }
         }
-        untouched(heap, &out)
+        untouched(rt, heap, &out)
     }
 }
 
@@ -72,7 +87,7 @@ fn a_wrong_length_is_refused(rt: HostRuntime) -> Result<(), Fail> {
     for (document, length, place) in LENGTHS {
         let mut documents = sound(heap)?;
         documents.of(document).resize(length, 0)?;
-        documents.refused(heap, 1, place).note(length)?;
+        documents.refused(&rt, heap, 1, place, length)?;
     }
     Ok(())
 }
@@ -111,7 +126,7 @@ fn a_changed_byte_is_refused(rt: HostRuntime) -> Result<(), Fail> {
             Some(byte) => *byte = value,
             None => return Err(Fail::new("no such byte")),
         }
-        documents.refused(heap, number, place).note(at)?;
+        documents.refused(&rt, heap, number, place, at)?;
     }
     Ok(())
 }

@@ -15,22 +15,26 @@ pub(crate) const BEFORE: Outcome = Outcome::Outside {
 pub(crate) const BEFORE_LINE: &str = "refused 9 at 61";
 
 /// That the outcome prints this line.
-pub(crate) fn prints(heap: Global, outcome: Outcome, line: &str) -> Result<(), Fail> {
-    assert_eq!(outcome.to_string(heap)?, line);
+pub(crate) fn prints(
+    rt: &impl Abort,
+    heap: Global,
+    outcome: Outcome,
+    line: &str,
+) -> Result<(), Fail> {
+    assert_eq!(rt; outcome.to_string(heap)?.as_str(), line);
     Ok(())
 }
 
 /// That nothing was written to these.
-pub(crate) fn untouched(heap: Global, out: &[Outcome]) -> Result<(), Fail> {
+pub(crate) fn untouched(rt: &impl Abort, heap: Global, out: &[Outcome]) -> Result<(), Fail> {
     for outcome in out {
-        prints(heap, *outcome, BEFORE_LINE)?;
+        prints(rt, heap, *outcome, BEFORE_LINE)?;
     }
     Ok(())
 }
 
-/// That the sensors have differed for so many beats in a row.
-pub(crate) fn counts(rt: &impl Abort, alarms: Alarms, expected: [u8; 3]) -> Result<(), Fail> {
+/// For how many beats in a row each sensor has differed.
+pub(crate) fn counts(alarms: Alarms) -> [u8; 3] {
     let [a, b, c] = alarms.watches;
-    assert_eq!(rt; [a.count, b.count, c.count], expected);
-    Ok(())
+    [a.count, b.count, c.count]
 }

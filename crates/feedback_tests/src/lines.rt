@@ -28,7 +28,7 @@ const ANSWERS: [(i32, [bool; 3], &str); 13] = [
 #[test]
 fn an_answer_stands_before_the_sensors_called_bad(rt: HostRuntime) -> Result<(), Fail> {
     for (u, bad, line) in ANSWERS {
-        prints(rt.alloc(), answered(u, bad), line)?;
+        prints(&rt, rt.alloc(), answered(u, bad), line)?;
         assert!(rt; answered(u, bad).refusal().is_none());
     }
     Ok(())
@@ -49,7 +49,7 @@ const REFUSALS: [(u8, u8, u16, &str); 7] = [
 fn a_refusal_has_its_number_and_its_place(rt: HostRuntime) -> Result<(), Fail> {
     for (sensor, number, place, line) in REFUSALS {
         let outcome = Outcome::Outside { sensor, number };
-        prints(rt.alloc(), outcome, line)?;
+        prints(&rt, rt.alloc(), outcome, line)?;
         assert_eq!(rt; outcome.refusal(), Some((9, place)));
     }
     Ok(())
@@ -63,6 +63,6 @@ fn an_outcome_stands_within_other_text(rt: HostRuntime) -> Result<(), Fail> {
         number: 2,
     };
     let text = format!(in rt.alloc(); "<{first}> <{second}>")?;
-    assert_eq!(rt; text, "<3 bad 0 2> <refused 9 at 10>");
+    assert_eq!(rt; text.as_str(), "<3 bad 0 2> <refused 9 at 10>");
     Ok(())
 }

@@ -46,7 +46,7 @@ fn as_many_beats_are_run_as_there_is_room_for(rt: HostRuntime) -> Result<(), Fai
             } else {
                 BEFORE_LINE
             };
-            prints(heap, out[i], line)?;
+            prints(&rt, heap, out[i], line)?;
         }
     }
     Ok(())
@@ -56,7 +56,7 @@ fn as_many_beats_are_run_as_there_is_room_for(rt: HostRuntime) -> Result<(), Fai
 fn no_beats_write_nothing(rt: HostRuntime) -> Result<(), Fail> {
     let mut out = [BEFORE; 3];
     assert_eq!(rt; ran(rt.alloc(), &[], &mut out)?, 0);
-    untouched(rt.alloc(), &out)?;
+    untouched(&rt, rt.alloc(), &out)?;
     assert_eq!(rt; ran(rt.alloc(), &[], &mut [])?, 0);
     Ok(())
 }
@@ -75,11 +75,11 @@ fn each_run_begins_with_new_alarms(rt: HostRuntime) -> Result<(), Fail> {
     for _ in 0..2 {
         let mut out = [BEFORE; 42];
         assert_eq!(rt; ran(heap, readings.as_slice(), &mut out)?, 42);
-        prints(heap, out[0], "0")?;
-        prints(heap, out[20], "refused 9 at 9")?;
-        prints(heap, out[39], "0")?;
-        prints(heap, out[40], "0 bad 0")?;
-        prints(heap, out[41], "0 bad 0")?;
+        prints(&rt, heap, out[0], "0")?;
+        prints(&rt, heap, out[20], "refused 9 at 9")?;
+        prints(&rt, heap, out[39], "0")?;
+        prints(&rt, heap, out[40], "0 bad 0")?;
+        prints(&rt, heap, out[41], "0 bad 0")?;
     }
     Ok(())
 }

@@ -1,5 +1,5 @@
 -- The readings of a beat, from those of each sensor.
-use Rattle.std.proofs.Common.{◌≡◌, ℕ, zero, suc, ◌<◌, List, [], ◌∷◌, arith}
+use Rattle.std.proofs.Common.{◌≡◌, ℕ, zero, suc, List, [], ◌∷◌, arith}
 use Rattle.std.proofs.lemmas.Bool.{le-ltb}
 use Rattle.voter.specs.Sent.{sent, sent_row}
 use Rattle.voter.specs.Sizes.{sensors}

@@ -46,8 +46,8 @@ impl From<Refusal> for Fault {
 
     ghost from_gives = { λ refusal fault. fault ≡ Documents refusal };
 
-    fn from(refusal: Refusal) -> Fault {
-        Fault::Documents(refusal)
+    fn from(first: Refusal) -> Fault {
+        Fault::Documents(first)
     }
 }
 

@@ -6,8 +6,8 @@ ghost use Rattle.format.specs.Recordings.{group, width, reading as reading_of, h
 
 pub use crate::beats::GROUP;
 use crate::beats::check_recording;
-use crate::fill::{fill_design, fill_faces};
 pub use crate::fault::Fault;
+use crate::fill::{fill_design, fill_faces};
 pub use crate::recorded::Recording;
 use linear::row::NUMBERS;
 use voter::{Reading, Readings};

@@ -4,7 +4,7 @@
 #[cfg(test)]
 mod tests {
     use format::read::read_claim;
-    use format::recording::{read_recording, readings_of};
+    use format::recording::{Fault, read_recording, readings_of};
     use format::refusal::{Document, Refusal};
     use format::write::{write_certificate, write_design, write_faces};
     use std::alloc::{AllocError, Global};
@@ -170,12 +170,7 @@ mod tests {
         let mut bytes = recorded(heap, 1)?;
         bytes.pop();
         match read_recording(design.as_slice(), set.as_slice(), bytes.as_slice()) {
-            Err(
-                Refusal::Length {
-                    document: Document::Readings,
-                    place,
-                },
-            ) => {
+            Err(Fault::Beats { place }) => {
                 assert_eq!(rt; place, 35);
                 Ok(())
             },
@@ -215,10 +210,12 @@ mod tests {
         let set = rows(heap, 4, &FACES)?;
         match read_recording(design.as_slice(), set.as_slice(), &[1, 2, 3]) {
             Err(
-                Refusal::Range {
-                    document: Document::Design,
-                    place,
-                },
+                Fault::Documents(
+                    Refusal::Range {
+                        document: Document::Design,
+                        place,
+                    },
+                ),
             ) => {
                 assert_eq!(rt; place, 0);
                 Ok(())

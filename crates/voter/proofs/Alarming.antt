@@ -1,11 +1,11 @@
 -- The alarms over any number of beats.
-use Rattle.std.proofs.Common.{◌≡◌, ℕ, zero, suc, ◌*◌, ◌<◌, ◌≤◌, Bool, true, false, ◌⊎◌, List, [], ◌∷◌, map, length, ℤ, ◌-ℤ◌, nat_abs, refl, ap, ◌∙◌, inl, inr, arith}
+use Rattle.std.proofs.Common.{◌≡◌, ℕ, zero, suc, ◌*◌, ◌<◌, Bool, true, false, ◌⊎◌, List, [], ◌∷◌, map, length, ℤ, ◌-ℤ◌, nat_abs, refl, ap, ◌∙◌, inl, inr, arith}
 use borrow.Author.Differences.{ints}
 use Rattle.std.proofs.lemmas.Bool.{le-ltb, lt-ltb, or_from, or_right}
-use Rattle.std.specs.List.{AllByRecursion as All}
+use Rattle.std.specs.List.{AllByRecursion}
 use Rattle.linear.specs.Rows.{range}
 use Rattle.linear.specs.Vectors.{Vector, Matrix}
-use Rattle.voter.specs.Beats.{Sample, Counted, Far, Notes, Refused, SoundAt, Steps, True}
+use Rattle.voter.specs.Beats.{Sample, Counted, Far, Refused, SoundAt, Steps, True}
 use Rattle.voter.specs.Counts.{Each, Seen, noted, seen_of}
 use Rattle.voter.specs.Differences.{differs, strays}
 use Rattle.voter.specs.Faults.{Near}
@@ -60,7 +60,7 @@ module _ (s : Sensors) (c : ℕ) (c_is : c < sensors) where
   taken e a b sound (inr p) =
       absurd (not_both s.n e.ys p.sensor p.number (true_inside s.n (noise_of s) e.x sound.faulty e.ys sound.readings sound.room) p.outside)
 
-  over : (es : List Sample) (a b : Alarms) → All (SoundAt s) es → Steps s a es b → seen_of b c ≡ one.after (seen_of a c) (map flag es)
+  over : (es : List Sample) (a b : Alarms) → AllByRecursion (SoundAt s) es → Steps s a es b → seen_of b c ≡ one.after (seen_of a c) (map flag es)
   over [] a b sound g = ap (λ (t : Alarms). seen_of t c) g
   over (e ∷ es) a b sound g =
       over es g.0 b sound.1 g.2 ∙ ap (λ (t : Seen). one.after t (map flag es)) (taken e a g.0 sound.0 g.1)
@@ -69,12 +69,12 @@ module _ (s : Sensors) (c : ℕ) (c_is : c < sensors) where
   near e sound =
       close s.n (noise_of s) e.x (mids e.ys) e.ys (two_true s.n (noise_of s) (λ _. e.x) sound.faulty e.ys sound.readings) (λ i l. mid_between (e.ys 0 i) (e.ys 1 i) (e.ys 2 i))
 
-  quiet : (es : List Sample) → All (SoundAt s) es → All (True s c) es → All (λ d. d ≡ false) (map flag es)
+  quiet : (es : List Sample) → AllByRecursion (SoundAt s) es → AllByRecursion (True s c) es → AllByRecursion (λ d. d ≡ false) (map flag es)
   quiet [] sound r = tt
   quiet (e ∷ es) sound r =
       (true_same s.n (noise_of s) e.x (mids e.ys) (e.ys c) (near e sound.0) sound.0.room r.0, quiet es sound.1 r.1)
 
-  loud : (es : List Sample) → All (SoundAt s) es → All (Far 3 s c) es → All (λ d. d ≡ true) (map flag es)
+  loud : (es : List Sample) → AllByRecursion (SoundAt s) es → AllByRecursion (Far 3 s c) es → AllByRecursion (λ d. d ≡ true) (map flag es)
   loud [] sound r = tt
   loud (e ∷ es) sound r =
       (far_differs s.n (noise_of s) e.x (mids e.ys) (e.ys c) r.0.0 (near e sound.0) r.0.1 r.0.2, loud es sound.1 r.1)

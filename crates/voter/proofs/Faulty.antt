@@ -1,5 +1,5 @@
 -- What two true sensors of three come to.
-use Rattle.std.proofs.Common.{◌≡◌, ℕ, ◌<◌, ◌≤◌, ◌⊎◌, ℤ, ◌-ℤ◌, nat_abs, inl, inr, arith}
+use Rattle.std.proofs.Common.{ℕ, ◌≤◌, ℤ, ◌-ℤ◌, nat_abs, inl, inr, arith}
 use borrow.Author.Differences.{ints}
 use Rattle.std.proofs.lemmas.Bool.{cases_order}
 use Rattle.linear.specs.Vectors.{Vector, Matrix}

@@ -1,5 +1,5 @@
 -- True readings, and a faulty sensor among three.
-use Rattle.std.specs.Prelude.{◌≡◌, ℕ, ◌<◌, ◌≤◌, ◌-ℤ◌, ◌≢◌, unsigned_abs}
+use Rattle.std.specs.Prelude.{ℕ, ◌<◌, ◌≤◌, ◌-ℤ◌, ◌≢◌, unsigned_abs}
 use Rattle.linear.specs.Vectors.{Vector, Matrix}
 use Rattle.voter.specs.Ranges.{Room}
 use Rattle.voter.specs.Sizes.{sensors}

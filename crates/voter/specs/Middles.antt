@@ -1,5 +1,5 @@
 -- The middle one of three readings (mid-value selection).
-use Rattle.std.specs.Prelude.{◌≡◌, ℕ, ◌<◌, ◌⊎◌, ℤ, ◌≤ℤ◌}
+use Rattle.std.specs.Prelude.{ℕ, ◌<◌, ◌⊎◌, ℤ, ◌≤ℤ◌}
 use Rattle.std.specs.Int.{int_min, int_max}
 use Rattle.linear.specs.Vectors.{Vector, Matrix}
 

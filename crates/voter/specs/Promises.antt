@@ -1,6 +1,6 @@
 -- What the voter promises over any number of beats.
 use Rattle.std.specs.Prelude.{◌≡◌, ℕ, ◌*◌, ◌<◌, ◌≤◌, true, List, length, ◌-ℤ◌, unsigned_abs}
-use Rattle.std.specs.List.{AllByRecursion as All}
+use Rattle.std.specs.List.{AllByRecursion}
 use Rattle.linear.specs.Vectors.{Vector, Matrix}
 use Rattle.voter.specs.Beats.{Sample, Far, Notes, SoundAt, Steps, True}
 use Rattle.voter.specs.Counts.{seen_of}
@@ -13,9 +13,9 @@ use Rattle.voter.specs.declared.watch.Alarms.{Alarms}
 
 pub record Alarming : Type 0 where
   -- a sensor that is true at every beat is called bad at the end only if it was at the start, whatever the others do
-  pub spared : (s : Sensors) (a b : Alarms) (es : List Sample) (c : ℕ) → c < sensors → All (SoundAt s) es → All (True s c) es → Steps s a es b → (seen_of b c).bad ≡ (seen_of a c).bad
+  pub spared : (s : Sensors) (a b : Alarms) (es : List Sample) (c : ℕ) → c < sensors → AllByRecursion (SoundAt s) es → AllByRecursion (True s c) es → Steps s a es b → (seen_of b c).bad ≡ (seen_of a c).bad
   -- one that is off by more than three noises at each of 40 beats is called bad at the end, whatever was before
-  pub caught : (s : Sensors) (a b : Alarms) (es : List Sample) (c : ℕ) → c < sensors → persistence ≤ length es → All (SoundAt s) es → All (Far 3 s c) es → Steps s a es b → (seen_of b c).bad ≡ true
+  pub caught : (s : Sensors) (a b : Alarms) (es : List Sample) (c : ℕ) → c < sensors → persistence ≤ length es → AllByRecursion (SoundAt s) es → AllByRecursion (Far 3 s c) es → Steps s a es b → (seen_of b c).bad ≡ true
   -- more than four noises from what a true sensor could read, or from the state itself, are more than three from the state
   pub far : (s : Sensors) (c : ℕ) (e : Sample) (t : Vector) (i : ℕ) → i < s.n → unsigned_abs (t i -ℤ e.x i) ≤ noise_of s i → 4 * noise_of s i < unsigned_abs (e.ys c i -ℤ t i) → Far 3 s c e
   -- one that was called bad stays so

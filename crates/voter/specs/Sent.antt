@@ -1,5 +1,5 @@
 -- What the sensors sent at a beat, as a matrix: a row for each sensor, an entry for each number of the state.
-use Rattle.std.specs.Prelude.{ℕ, List, [], get_or, pos, slice_index_or}
+use Rattle.std.specs.Prelude.{List, [], get_or, pos, slice_index_or}
 use Rattle.linear.specs.Vectors.{Vector, Matrix}
 use Rattle.voter.specs.declared.reading.Reading.{Reading}
 

@@ -1,4 +1,4 @@
-use Rattle.std.proofs.Common.{◌*◌, ◌≤◌, mul_comm, mul-le-mul_left, arith, rules}
+use Rattle.std.proofs.Common.{◌*◌, ◌≤◌, mul_comm, mul-le-mul_left, arith}
 use Rattle.format.specs.Recordings.{frame}
 use Rattle.feedback.proofs.run.run.Goals as goal
 
