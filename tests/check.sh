@@ -2,7 +2,7 @@
 # shellcheck shell=bash
 # shellcheck disable=SC2034,SC2154 # tests/lib.sh uses and makes what stands here
 # shellcheck disable=SC2046 # 'times' prints words to split
-program=${CHECK:-$PWD/target/bin/check} name=check
+program=${CHECK:-$PWD/target/bin/check} name=check crate=checking
 
 # ok N FACES: the line for documents that can be read. reads N FACES DESIGN SET SHEET.
 ok() { echo "read n $1 faces $2"; }

@@ -1,9 +1,10 @@
-# What the parts of tests/cli.sh share. A part sets 'program', what it drives, and 'name', what
-# that calls itself; 'base', three documents; and 'fine DOCUMENT..', that documents are taken.
+# What the parts of tests/cli.sh share. A part sets 'program', what it drives, 'name', what that
+# calls itself, and 'crate', where it is; 'base', three documents; and 'fine DOCUMENT..', that
+# documents are taken.
 # shellcheck shell=bash
 # shellcheck disable=SC2034 # the parts use what stands here
 # shellcheck disable=SC2046,SC2053 # 'times' prints words to split, 'expect' takes patterns
-# shellcheck disable=SC2154 # 'program', 'name' and 'base' are the part's
+# shellcheck disable=SC2154 # 'program', 'name', 'crate' and 'base' are the part's
 passed=0
 failed=0
 dir=$(mktemp -d) || exit 1
@@ -140,7 +141,7 @@ committed() {
   local file
   for file; do
     expect 0 "$(od -An -v -tx1 -w1024 "$file")" '' \
-      od -An -v -tx1 -w1024 "crates/$name/data/${file##*/}"
+      od -An -v -tx1 -w1024 "crates/$crate/data/${file##*/}"
   done
 }
 

@@ -2,7 +2,7 @@
 # shellcheck shell=bash
 # shellcheck disable=SC2034,SC2154 # tests/lib.sh uses and makes what stands here
 # shellcheck disable=SC2046 # 'times' prints words to split
-program=${RUN:-$PWD/target/bin/run} name=run
+program=${RUN:-$PWD/target/bin/run} name=run crate=run
 recording=()
 lines=''
 

@@ -3,9 +3,12 @@
 
 use cli::{read_documents, refuse};
 use format::read::read_claim;
+use std::process::ExitCode;
 
-fn main(rt: HostRuntime) -> anyhow::Result<()> {
-    let given = read_documents(&rt, "check", "DESIGN SET SHEET")?;
+fn main(rt: HostRuntime) -> anyhow::Result<ExitCode> {
+    let Some(given) = read_documents(&rt, "check", "DESIGN SET SHEET")? else {
+        return Ok(ExitCode::FAILURE);
+    };
     match read_claim(
         given.first.as_slice(),
         given.second.as_slice(),
@@ -15,7 +18,7 @@ fn main(rt: HostRuntime) -> anyhow::Result<()> {
             let n = claim.design.n;
             let faces = claim.faces.count;
             println!(rt; "read n {n} faces {faces}")?;
-            Ok(())
+            Ok(ExitCode::SUCCESS)
         }
         Err(refusal) => refuse(&rt, refusal),
     }

@@ -4,10 +4,11 @@
 //! should do.
 #![tactic(auto)]
 
-ghost use Rattle.std.specs.Prelude.{◌≡◌, false, is_ok};
+ghost use Rattle.std.specs.Prelude.{◌≡◌, IfOk};
+ghost use Rattle.std.specs.Process.{exit_status};
 
-use anyhow::anyhow;
 use std::fmt::Display;
+use std::process::ExitCode;
 use std::{env, fs};
 
 /// The bytes of three documents, in the order of the call.
@@ -18,39 +19,49 @@ pub struct Documents {
     pub third: Vec<u8>,
 }
 
-/// The bytes of the file, or an error that names it.
-fn read(rt: &HostRuntime, program: &str, path: &str) -> anyhow::Result<Vec<u8>> {
+/// The bytes of the file, or `None` once a line has named it.
+fn read(rt: &HostRuntime, program: &str, path: &str) -> anyhow::Result<Option<Vec<u8>>> {
     match fs::read(rt, path) {
-        Ok(bytes) => Ok(bytes),
+        Ok(bytes) => Ok(Some(bytes)),
         Err(error) => {
             eprintln!(rt; "{program}: {path}: {error}")?;
-            Err(anyhow!("unreadable"))
+            Ok(None)
         }
     }
 }
 
 /// The documents that the program was called with. A wrong call and a file that cannot be read are one line on standard
-/// error, and an `Err` for `main` to end with.
-pub fn read_documents(rt: &HostRuntime, program: &str, names: &str) -> anyhow::Result<Documents> {
+/// error, and `None`.
+pub fn read_documents(
+    rt: &HostRuntime,
+    program: &str,
+    names: &str,
+) -> anyhow::Result<Option<Documents>> {
     let args: Vec<String> = env::args(rt)?.collect(rt.alloc())?;
     if args.len() != 4 {
         eprintln!(rt; "usage: {program} {names}")?;
-        return Err(anyhow!("usage"));
+        return Ok(None);
     }
-    let first = read(rt, program, args[1].as_str())?;
-    let second = read(rt, program, args[2].as_str())?;
-    let third = read(rt, program, args[3].as_str())?;
-    Ok(Documents {
+    let Some(first) = read(rt, program, args[1].as_str())? else {
+        return Ok(None);
+    };
+    let Some(second) = read(rt, program, args[2].as_str())? else {
+        return Ok(None);
+    };
+    let Some(third) = read(rt, program, args[3].as_str())? else {
+        return Ok(None);
+    };
+    Ok(Some(Documents {
         first,
         second,
         third,
-    })
+    }))
 }
 
 /// The line of a refusal. Whether it can be printed or not, the program then ends with status 1.
-pub fn refuse(rt: &HostRuntime, refusal: impl Display + Drop) -> anyhow::Result<()>
-    ensures { is_ok result ≡ false }
+pub fn refuse(rt: &HostRuntime, refusal: impl Display + Drop) -> anyhow::Result<ExitCode>
+    ensures { IfOk result (λ code. exit_status code ≡ 1) }
 {
     println!(rt; "{refusal}")?;
-    Err(anyhow!("refused"))
+    Ok(ExitCode::FAILURE)
 }

@@ -6,19 +6,22 @@ use feedback::outcome::Outcome;
 use feedback::run::run;
 use format::recording::read_recording;
 use std::io::{BufWriter, Write};
+use std::process::ExitCode;
 
 /// A line for each beat.
-fn print(rt: &HostRuntime, outcomes: &[Outcome]) -> anyhow::Result<()> {
+fn print(rt: &HostRuntime, outcomes: &[Outcome]) -> anyhow::Result<ExitCode> {
     let mut out = BufWriter::new(rt.alloc(), rt.stdout())?;
     for outcome in outcomes {
         writeln!(out, "{outcome}")?;
     }
     out.flush()?;
-    Ok(())
+    Ok(ExitCode::SUCCESS)
 }
 
-fn main(rt: HostRuntime) -> anyhow::Result<()> {
-    let given = read_documents(&rt, "run", "DESIGN SET READINGS")?;
+fn main(rt: HostRuntime) -> anyhow::Result<ExitCode> {
+    let Some(given) = read_documents(&rt, "run", "DESIGN SET READINGS")? else {
+        return Ok(ExitCode::FAILURE);
+    };
     let design = given.first.as_slice();
     let set = given.second.as_slice();
     let readings = given.third.as_slice();
