@@ -20,6 +20,6 @@ fn main(rt: HostRuntime) -> anyhow::Result<ExitCode> {
             println!(rt; "read n {n} faces {faces}")?;
             Ok(ExitCode::SUCCESS)
         }
-        Err(refusal) => refuse(&rt, refusal),
+        Err(refusal) => Ok(refuse(&rt, refusal)),
     }
 }

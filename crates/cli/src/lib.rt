@@ -4,7 +4,7 @@
 //! should do.
 #![tactic(auto)]
 
-ghost use Rattle.std.specs.Prelude.{◌≡◌, IfOk};
+ghost use Rattle.std.specs.Prelude.{◌≡◌};
 ghost use Rattle.std.specs.Process.{exit_status};
 
 use std::fmt::Display;
@@ -58,10 +58,10 @@ pub fn read_documents(
     }))
 }
 
-/// The line of a refusal. Whether it can be printed or not, the program then ends with status 1.
-pub fn refuse(rt: &HostRuntime, refusal: impl Display + Drop) -> anyhow::Result<ExitCode>
-    ensures { IfOk result (λ code. exit_status code ≡ 1) }
+/// The line of a refusal, and the status to end with, whether the line could be printed or not.
+pub fn refuse(rt: &HostRuntime, refusal: impl Display + Drop) -> ExitCode
+    ensures { exit_status result ≡ 1 }
 {
-    println!(rt; "{refusal}")?;
-    Ok(ExitCode::FAILURE)
+    let _ = println!(rt; "{refusal}");
+    ExitCode::FAILURE
 }

@@ -27,7 +27,7 @@ fn main(rt: HostRuntime) -> anyhow::Result<ExitCode> {
     let readings = given.third.as_slice();
     let beats = match read_recording(design, set, readings) {
         Ok(recording) => recording.beats,
-        Err(refusal) => return refuse(&rt, refusal),
+        Err(refusal) => return Ok(refuse(&rt, refusal)),
     };
     let none = Outcome::Outside {
         sensor: 0,
@@ -36,6 +36,6 @@ fn main(rt: HostRuntime) -> anyhow::Result<ExitCode> {
     let mut outcomes = vec![in rt.alloc(); none; beats]?;
     match run(design, set, readings, outcomes.as_mut_slice()) {
         Ok(_) => print(&rt, outcomes.as_slice()),
-        Err(refusal) => refuse(&rt, refusal),
+        Err(refusal) => Ok(refuse(&rt, refusal)),
     }
 }
