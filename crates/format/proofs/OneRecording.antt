@@ -3,7 +3,7 @@ use Rattle.std.proofs.Common.{◌≡◌, ℕ, ◌*◌, ◌<◌, List, Result, sy
 use native.Mathlib.Nat.{eq_of_mul-eq-mul_right}
 use Rattle.format.specs.Checks.{Check, IsExact}
 use Rattle.format.specs.Reading.{size, design_given, set_given}
-use Rattle.format.specs.Recordings.{FirstSpoilt, Recorded, Records, frame, length_of, ranges_of, within, beats_check, padding_check, recording_check}
+use Rattle.format.specs.Recordings.{FirstSpoilt, Recorded, Records, frame, length_of, ranges_of, document_check, beats_check, padding_check, recording_check}
 use Rattle.format.specs.Refusals.{Given}
 use Rattle.format.specs.Sizes.{most_numbers}
 use Rattle.format.specs.declared.design.Design.{Design as DesignOf}
@@ -31,15 +31,15 @@ ranges_exact d g = record {
   same = λ e f p q. p.1 ∙ ap (OutOfRange d) (same_out _ _ _ _ _ p.2 q.2) ∙ sym q.1;
 }
 
-within_exact : (c : Check Refusal) → IsExact c → IsExact (within c)
-within_exact c x = record { never = never; same = same }
+document_exact : (c : Check Refusal) → IsExact c → IsExact (document_check c)
+document_exact c x = record { never = never; same = same }
   where
-    never : (f : Fault) → c.passes → (within c).fails f → ⊥
+    never : (f : Fault) → c.passes → (document_check c).fails f → ⊥
     never (Documents e) p f = x.never e p f
     never (Beats place) p f = f
     never (Padding place) p f = f
 
-    same : (f g : Fault) → (within c).fails f → (within c).fails g → f ≡ g
+    same : (f g : Fault) → (document_check c).fails f → (document_check c).fails g → f ≡ g
     same (Documents e) (Documents f) p q = ap Documents (x.same e f p q)
     same (Documents e) (Beats place) p q = absurd q
     same (Documents e) (Padding place) p q = absurd q
@@ -67,8 +67,8 @@ recording_exact design set readings =
     let s = set_given design set in
     let told = once_exact (size most_numbers design) _ (λ n. next_exact _ _ (beats_exact n readings) (padding_exact readings)) in
     next_exact _ _
-    (next_exact _ _ (within_exact _ (length_exact Design d)) (next_exact _ _ (within_exact _ (length_exact Set s)) told))
-    (next_exact _ _ (within_exact _ (ranges_exact Design d)) (within_exact _ (ranges_exact Set s)))
+    (next_exact _ _ (document_exact _ (length_exact Design d)) (next_exact _ _ (document_exact _ (length_exact Set s)) told))
+    (next_exact _ _ (document_exact _ (ranges_exact Design d)) (document_exact _ (ranges_exact Set s)))
 
 pub one_recorded : (design set readings : List ℕ) (q r : Recording) → Recorded design set readings q → Recorded design set readings r → q ≡ r
 one_recorded design set readings q r x y =

@@ -70,14 +70,15 @@ length_of d g = record { passes = Whole g; fails = λ e. (place : ℕ) × (e ≡
 abbrev pub ranges_of : Document → Given → Check Refusal
 ranges_of d g = record { passes = Ranged g; fails = FirstNumber d g }
 
--- a refusal of a document is a fault of the recording
-abbrev pub Among : (Refusal → Type 0) → Fault → Type 0
-Among Fails (Documents refusal) = Fails refusal
-Among Fails (Beats place) = ⊥
-Among Fails (Padding place) = ⊥
+-- P of the refusal of a document that the fault is, which a fault of the readings is not
+abbrev pub OfDocument : (Refusal → Type 0) → Fault → Type 0
+OfDocument P (Documents refusal) = P refusal
+OfDocument P (Beats place) = ⊥
+OfDocument P (Padding place) = ⊥
 
-abbrev pub within : Check Refusal → Check Fault
-within c = record { passes = c.passes; fails = Among c.fails }
+-- the check of a document, as one of the recording
+abbrev pub document_check : Check Refusal → Check Fault
+document_check c = record { passes = c.passes; fails = OfDocument c.fails }
 
 -- readings are whole beats
 abbrev pub beats_check : ℕ → List ℕ → Check Fault
@@ -99,11 +100,11 @@ readings_check readings n = beats_check n readings next padding_check readings
 -- the order of the checks: lengths, then padding, then ranges. Nothing is asked of the readings while n cannot be told
 abbrev pub recording_form : List ℕ → List ℕ → List ℕ → Check Fault
 recording_form design set readings =
-    within (length_of Design (design_given design)) next within (length_of Set (set_given design set)) next once (size most_numbers design) (readings_check readings)
+    document_check (length_of Design (design_given design)) next document_check (length_of Set (set_given design set)) next once (size most_numbers design) (readings_check readings)
 
 abbrev pub recording_check : List ℕ → List ℕ → List ℕ → Check Fault
 recording_check design set readings =
-    recording_form design set readings next within (ranges_of Design (design_given design)) next within (ranges_of Set (set_given design set))
+    recording_form design set readings next document_check (ranges_of Design (design_given design)) next document_check (ranges_of Set (set_given design set))
 
 -- the bytes are those of the design and of the set, and of so many beats
 pub record Recorded (design set readings : List ℕ) (r : Recording) : Type 0 where

@@ -1,8 +1,8 @@
 -- How many numbers each document has, and where its parts begin, for a state of n numbers and a set of c faces.
 use Rattle.std.specs.Prelude.{ℕ, ◌+◌, ◌*◌}
--- the most numbers of a state, which is also how far apart the rows of a table over the state are; and the same of faces
 pub use Rattle.linear.specs.Rows.{most_numbers}
 
+-- the most faces of a set, which is also how far apart the rows of a table over the faces are
 abbrev pub most_faces : ℕ
 most_faces = 24
 

@@ -77,10 +77,7 @@ mod tests {
                 assert!(rt; write_certificate(&claim.certificate, heap)? == sheet);
                 Ok(())
             }
-            Err(_) => {
-                assert!(rt; false);
-                Ok(())
-            },
+            Err(_) => Err(Fail::new("the head is refused")),
         }
     }
 
@@ -100,10 +97,7 @@ mod tests {
                 assert_eq!(rt; place, 3);
                 Ok(())
             },
-            _ => {
-                assert!(rt; false);
-                Ok(())
-            },
+            _ => Err(Fail::new("another answer")),
         }
     }
 
@@ -135,10 +129,7 @@ mod tests {
                 assert_eq!(rt; recording.beats, 2);
                 Ok(())
             }
-            Err(_) => {
-                assert!(rt; false);
-                Ok(())
-            },
+            Err(_) => Err(Fail::new("the head is refused")),
         }
     }
 
@@ -155,10 +146,7 @@ mod tests {
                 assert_eq!(rt; readings_of(2, rest)[1][0].0, 512);
                 Ok(())
             },
-            None => {
-                assert!(rt; false);
-                Ok(())
-            },
+            None => Err(Fail::new("there is no second beat")),
         }
     }
 
@@ -174,10 +162,7 @@ mod tests {
                 assert_eq!(rt; place, 35);
                 Ok(())
             },
-            _ => {
-                assert!(rt; false);
-                Ok(())
-            },
+            _ => Err(Fail::new("another answer")),
         }
     }
 
@@ -193,10 +178,7 @@ mod tests {
                 assert_eq!(rt; refusal.place(), 8);
                 Ok(())
             }
-            Ok(_) => {
-                assert!(rt; false);
-                Ok(())
-            },
+            Ok(_) => Err(Fail::new("it is read")),
         }
     }
 
@@ -220,10 +202,7 @@ mod tests {
                 assert_eq!(rt; place, 0);
                 Ok(())
             },
-            _ => {
-                assert!(rt; false);
-                Ok(())
-            },
+            _ => Err(Fail::new("another answer")),
         }
     }
 }
