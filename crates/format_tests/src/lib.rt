@@ -77,7 +77,10 @@ mod tests {
                 assert!(rt; write_certificate(&claim.certificate, heap)? == sheet);
                 Ok(())
             }
-            Err(_) => Err(Fail::new("the head is refused")),
+            Err(_) => {
+                assert!(rt; false);
+                Ok(())
+            },
         }
     }
 
@@ -97,7 +100,10 @@ mod tests {
                 assert_eq!(rt; place, 3);
                 Ok(())
             },
-            _ => Err(Fail::new("another answer")),
+            _ => {
+                assert!(rt; false);
+                Ok(())
+            },
         }
     }
 
