@@ -94,12 +94,11 @@ pub(crate) fn in_range<L: Layout>(
     requires { 8 * count ≤ length bytes.now }
     ensures { MatchResult result (λ _. AllIn (L.ranges layout.now) bytes.now count) (λ e. (place : ℕ) × (e ≡ Refusal.Range document place) × FirstOut (L.ranges layout.now) bytes.now count place) }
 {
-    let k = first_out(layout, bytes, count);
-    if k < count {
-        return Err(Refusal::Range {
+    match first_out(layout, bytes, count) {
+        None => Ok(()),
+        Some(k) => Err(Refusal::Range {
             document,
             place: 8 * k,
-        });
+        }),
     }
-    Ok(())
 }

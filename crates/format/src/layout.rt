@@ -1,15 +1,26 @@
 //! One search for the first number out of its range, whatever the document.
-ghost use Rattle.std.specs.Prelude.{◌≡◌, ℕ, ◌*◌, ◌<◌, ◌≤◌, length};
+ghost use Rattle.std.specs.Prelude.{◌≡◌, ℕ, ◌+◌, ◌*◌, ◌≤◌, length, MatchBool, MatchOption};
 ghost use Rattle.format.specs.declared.layout.Range.{Range};
-ghost use Rattle.format.specs.Ranges.{AllIn, Out};
+ghost use Rattle.format.specs.Numbers.{number as number_of};
+ghost use Rattle.format.specs.Ranges.{In, AllIn, Out};
+ghost use Rattle.format.specs.Refusals.{FirstOut};
 
 use crate::number::number_at;
 
 /// The numbers from `low` to `high`.
-#[derive(Clone, Copy)]
+#[derive(Clone, Copy, Debug, PartialEq, Eq)]
 pub struct Range {
     pub low: i64,
     pub high: i64,
+}
+
+impl Range {
+    /// Whether the number is one of these.
+    fn contains(self, x: i64) -> bool
+        ensures { MatchBool result (In self x) (In self x → ⊥) }
+    {
+        self.low <= x && x <= self.high
+    }
 }
 
 /// The range of each number of a document.
@@ -20,19 +31,18 @@ pub trait Layout {
         ensures { result ≡ ranges self.now i };
 }
 
-/// The first of the document's `count` numbers that is out of its range, or `count`.
-pub(crate) fn first_out<L: Layout>(layout: &L, bytes: &[u8], count: usize) -> usize
-    requires { 8 * count ≤ length bytes.now }
-    ensures within { result ≤ count }
-    ensures before { AllIn (L.ranges layout.now) bytes.now result }
-    ensures found { result < count → Out (L.ranges layout.now) bytes.now result }
+/// Whether number `i` of the document is in its range.
+fn in_range<L: Layout>(layout: &L, bytes: &[u8], i: usize) -> bool
+    requires { 8 * i + 8 ≤ length bytes.now }
+    ensures { MatchBool result (In (L.ranges layout.now i) (number_of bytes.now i)) (Out (L.ranges layout.now) bytes.now i) }
 {
-    for i in 0..count {
-        let range = layout.range(i);
-        let x = number_at(bytes, i);
-        if x < range.low || range.high < x {
-            return i;
-        }
-    }
-    count
+    layout.range(i).contains(number_at(bytes, i))
+}
+
+/// The first of the document's `count` numbers that is out of its range.
+pub(crate) fn first_out<L: Layout>(layout: &L, bytes: &[u8], count: usize) -> Option<usize>
+    requires { 8 * count ≤ length bytes.now }
+    ensures { MatchOption result (AllIn (L.ranges layout.now) bytes.now count) (λ k. FirstOut (L.ranges layout.now) bytes.now count (8 * k)) }
+{
+    (0..count).find(|i| !in_range(layout, bytes, *i))
 }
