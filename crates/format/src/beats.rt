@@ -22,12 +22,7 @@ const CARRIED: usize = 6;
 fn first_spoilt(bytes: &[u8]) -> Option<usize>
     ensures { MatchOption result (Padded bytes.now (length bytes.now)) (FirstSpoilt bytes.now) }
 {
-    for p in 0..bytes.len() {
-        if p % GROUP >= CARRIED && bytes[p] != 0 {
-            return Some(p);
-        }
-    }
-    None
+    (0..bytes.len()).find(|p| *p % GROUP >= CARRIED && bytes[*p] != 0)
 }
 
 /// That the readings are whole beats of a state of size `n` whose padding is 0, or where they are not.
