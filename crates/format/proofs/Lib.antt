@@ -4,7 +4,6 @@ pub mod Chains
 pub mod Checks
 pub mod Designs
 pub mod Exact
-pub mod Hearing
 pub mod Known
 pub mod OneRecording
 pub mod Order

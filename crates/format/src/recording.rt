@@ -1,7 +1,6 @@
 //! Reading a recording with its design and its set, and the readings of a beat.
 ghost use Rattle.std.specs.Prelude.{◌≡◌, ℕ, ◌+◌, ◌*◌, ◌^◌, ◌<◌, slice_index};
 ghost use Rattle.voter.specs.Sent.{sent, sent_row};
-ghost use Rattle.voter.specs.Sizes.{sensors};
 ghost use Rattle.format.specs.Recordings.{group, width, reading as reading_of, heard, heard_row, Records, OneFault, OneAnswer};
 
 pub use crate::beats::GROUP;
@@ -10,6 +9,7 @@ pub use crate::fault::Fault;
 use crate::fill::{fill_design, fill_faces};
 pub use crate::recorded::Recording;
 use linear::row::NUMBERS;
+use std::array;
 use voter::{Reading, Readings};
 
 /// The bytes of one reading.
@@ -55,31 +55,28 @@ fn reading_at(bytes: &[u8], p: usize) -> Reading
 }
 
 /// Where the reading of sensor `c` of number `i` begins.
-fn place(c: usize, i: usize) -> usize
-    requires { (c < 2 ^ 32) × (i < 2 ^ 32) }
+fn place(c: u8, i: usize) -> usize
+    requires { i < 2 ^ 32 }
     ensures { result ≡ group * i + width * c }
 {
-    GROUP * i + WIDTH * c
+    GROUP * i + WIDTH * usize::from(c)
 }
 
 /// What sensor `c` sent of each of `n` numbers, in the beat that the bytes begin with.
-fn sensor_row(n: usize, bytes: &[u8], c: usize) -> [Reading; NUMBERS]
-    requires { c < sensors }
+fn sensor_row(n: usize, bytes: &[u8], c: u8) -> [Reading; NUMBERS]
     ensures { (i : ℕ) → sent_row result i ≡ heard_row n bytes.now c i }
 {
-    let mut row = [Reading(0); NUMBERS];
-    for i in 0..n.min(NUMBERS) {
-        row[i] = reading_at(bytes, place(c, i));
-    }
-    row
+    array::from_fn(|i| if i < n { reading_at(bytes, place(c, i)) } else { Reading(0) })
 }
 
 /// What the sensors sent of each of `n` numbers, in the beat that the bytes begin with; 0 stands for what is missing.
 pub fn readings_of(n: usize, bytes: &[u8]) -> Readings
     ensures { (c i : ℕ) → sent result c i ≡ heard n bytes.now c i }
 {
-    let first = sensor_row(n, bytes, 0);
-    let second = sensor_row(n, bytes, 1);
-    let third = sensor_row(n, bytes, 2);
-    [first, second, third]
+    // Not a `map` over the sensors: of a closure that gives an array the proof learns nothing.
+    [
+        sensor_row(n, bytes, 0),
+        sensor_row(n, bytes, 1),
+        sensor_row(n, bytes, 2),
+    ]
 }

@@ -2,6 +2,7 @@
 pub mod Cells
 pub mod Filling
 pub mod Lines
+pub mod Made
 pub mod Products
 pub mod Ring
 pub mod Small
