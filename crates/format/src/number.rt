@@ -7,17 +7,8 @@ pub(crate) fn number_at(bytes: &[u8], i: usize) -> i64
     requires { 8 * i + 8 ≤ length bytes.now }
     ensures { result ≡ number_of bytes.now i }
 {
-    let p = 8 * i;
-    i64::from_le_bytes([
-        bytes[p],
-        bytes[p + 1],
-        bytes[p + 2],
-        bytes[p + 3],
-        bytes[p + 4],
-        bytes[p + 5],
-        bytes[p + 6],
-        bytes[p + 7],
-    ])
+    let (words, _) = bytes.as_chunks();
+    i64::from_le_bytes(words[i])
 }
 
 /// Number `i` of the document, which is known to be 0 or more and to fit 32 bits.
