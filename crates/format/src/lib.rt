@@ -11,7 +11,6 @@ mod cells;
 pub mod certificate;
 pub mod claim;
 pub mod design;
-mod document;
 pub mod faces;
 mod fault;
 mod faults;

@@ -6,9 +6,9 @@ ghost use Rattle.format.specs.Values.{law_number, design_number, set_number, she
 
 use crate::certificate::Certificate;
 use crate::design::Design;
-use crate::document::Numbered;
 use crate::faces::Faces;
 use crate::sizes::{FACES, NUMBERS, design_count, set_count, sheet_count};
+use crate::write::Numbered;
 use linear::table::Table;
 
 /// Entry `k` of a table whose rows are `stride` apart, counted over the first `columns` of each row.

@@ -6,7 +6,7 @@ mod tests {
     use format::read::read_claim;
     use format::recording::{Fault, read_recording, readings_of};
     use format::refusal::{Document, Refusal};
-    use format::write::{write_certificate, write_design, write_faces};
+    use format::write::write;
     use std::alloc::{AllocError, Global};
     use std::test::Fail;
 
@@ -72,9 +72,9 @@ mod tests {
                 assert_eq!(rt; claim.faces.tops.entry(3), 8);
                 assert_eq!(rt; claim.certificate.m.entry(24 * 3 + 3), 120);
                 assert_eq!(rt; claim.certificate.w.entry(24 + 3), 7);
-                assert!(rt; write_design(&claim.design, heap)? == design);
-                assert!(rt; write_faces(&claim.faces, heap)? == set);
-                assert!(rt; write_certificate(&claim.certificate, heap)? == sheet);
+                assert!(rt; write(&claim.design, heap)? == design);
+                assert!(rt; write(&claim.faces, heap)? == set);
+                assert!(rt; write(&claim.certificate, heap)? == sheet);
                 Ok(())
             }
             Err(_) => {

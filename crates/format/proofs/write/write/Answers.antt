@@ -1,7 +1,7 @@
 use Rattle.std.proofs.Common.{vec_items, w64, SFits, rules}
 use Rattle.std.proofs.lemmas.Int.{to_z-of_z}
 use Rattle.format.proofs.Spelling.{spells_more}
-use Rattle.format.proofs.document.write.Goals as goal
+use Rattle.format.proofs.write.write.Goals as goal
 
 pub loop-i-preserved : goal.loop-i-preserved
 loop-i-preserved g c =
