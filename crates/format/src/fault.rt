@@ -4,10 +4,11 @@ ghost use Rattle.format.specs.Refusals.{refusal_line};
 ghost use Rattle.format.specs.Faults.{fault_report};
 
 use crate::refusal::Refusal;
+use crate::report::Report;
 use std::fmt;
 
 /// The first fault of a design, a set and readings. A place is a byte of its own document, counted from 0.
-#[derive(Clone, Copy)]
+#[derive(Clone, Copy, Debug, PartialEq, Eq)]
 pub enum Fault {
     /// The fault of the design or of the set.
     Documents(Refusal),
@@ -18,25 +19,14 @@ pub enum Fault {
 }
 
 impl Fault {
-    /// Which rule the documents break.
-    pub fn number(self) -> u8
-        ensures { result ≡ (fault_report self).0 }
+    /// The number of the rule that the documents break, and where they do.
+    pub fn report(self) -> Report
+        ensures number { result.number ≡ (fault_report self).0 }
+        ensures place { result.place ≡ (fault_report self).1 }
     {
         match self {
-            Fault::Documents(refusal) => refusal.number(),
-            Fault::Beats { .. } => 1,
-            Fault::Padding { .. } => 1,
-        }
-    }
-
-    /// The byte of its document at which it does.
-    pub fn place(self) -> usize
-        ensures { result ≡ (fault_report self).1 }
-    {
-        match self {
-            Fault::Documents(refusal) => refusal.place(),
-            Fault::Beats { place } => place,
-            Fault::Padding { place } => place,
+            Fault::Documents(refusal) => refusal.report(),
+            Fault::Beats { place } | Fault::Padding { place } => Report { number: 1, place },
         }
     }
 }
@@ -55,8 +45,6 @@ impl fmt::Display for Fault {
     ghost output = { λ e. Some (refusal_line (fault_report e).0 (fault_report e).1) };
 
     fn fmt<W: fmt::Write>(&self, f: &mut fmt::Formatter<W>) -> fmt::Result {
-        let number = self.number();
-        let place = self.place();
-        write!(f, "refused {number} at {place}")
+        self.report().fmt(f)
     }
 }

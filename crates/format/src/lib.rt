@@ -22,6 +22,7 @@ pub mod read;
 mod recorded;
 pub mod recording;
 pub mod refusal;
+pub mod report;
 pub mod sizes;
 mod sound;
 mod values;
