@@ -2,14 +2,13 @@
 ghost use Rattle.std.specs.Prelude.{◌≡◌, ◌%◌, ◌≤◌, length, MatchOption};
 ghost use Rattle.linear.specs.Rows.{most_numbers};
 ghost use Rattle.format.specs.Checks.{Answers, Passed};
-ghost use Rattle.format.specs.Parts.{DesignBytes, SetBytes};
 ghost use Rattle.format.specs.Recordings.{frame, Padded, FirstSpoilt, readings_check, recording_form, recording_check};
 
 use crate::fault::Fault;
-use crate::faults::{Extents, fits, size};
+use crate::faults::fits;
 use crate::refusal::Document;
-use crate::sizes::FACES;
-use crate::sound::{Sizes, check_design, check_set};
+use crate::sizes::{Sizes, design_count, size};
+use crate::sound::{SoundSet, check_design, check_set};
 use linear::row::NUMBERS;
 
 /// The bytes of one number of the state in a beat: a reading of each sensor, then padding.
@@ -47,21 +46,24 @@ fn check_form(design: &[u8], set: &[u8], readings: &[u8]) -> Result<(), Fault>
     ensures { Passed (recording_form design.now set.now readings.now) result }
 {
     let n = size(design, NUMBERS);
-    let extents = Extents::of(n, size(set, FACES));
-    fits(Document::Design, design, extents.design)?;
-    fits(Document::Set, set, extents.set)?;
+    let sizes = Sizes::of(design, set);
+    fits(Document::Design, design, n.map(design_count))?;
+    fits(Document::Set, set, sizes.map(Sizes::set_count))?;
     match n {
         Some(n) => check_readings(readings, n),
         None => Ok(()),
     }
 }
 
-/// The sizes of the design and the set, or the first fault.
-pub(crate) fn check_recording(design: &[u8], set: &[u8], readings: &[u8]) -> Result<Sizes, Fault>
-    ensures { Answers (recording_check design.now set.now readings.now) (λ z. DesignBytes z.n design.now × SetBytes z.n z.faces set.now × (length readings.now % frame z.n ≡ 0)) result }
+/// The set, given with the design, or the first fault of the documents.
+pub(crate) fn check_recording<'a>(
+    design: &'a [u8],
+    set: &'a [u8],
+    readings: &[u8],
+) -> Result<SoundSet<'a>, Fault>
+    ensures { Answers (recording_check design.now set.now readings.now) (λ s. (s.design.bytes.now ≡ design.now) × (s.bytes.now ≡ set.now) × (length readings.now % frame s.design.n ≡ 0)) result }
 {
     check_form(design, set, readings)?;
-    let n = check_design(design)?;
-    let faces = check_set(n, design, set)?;
-    Ok(Sizes { n, faces })
+    let design = check_design(design)?;
+    Ok(check_set(design, set)?)
 }

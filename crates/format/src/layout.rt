@@ -1,11 +1,13 @@
 //! One search for the first number out of its range, whatever the document.
 ghost use Rattle.std.specs.Prelude.{◌≡◌, ℕ, ◌+◌, ◌*◌, ◌≤◌, length, MatchBool, MatchOption};
 ghost use Rattle.format.specs.declared.layout.Range.{Range};
+ghost use Rattle.format.specs.declared.refusal.Document.{Document};
 ghost use Rattle.format.specs.Numbers.{number as number_of};
 ghost use Rattle.format.specs.Ranges.{In, AllIn, Out};
 ghost use Rattle.format.specs.Refusals.{FirstOut};
 
 use crate::number::number_at;
+use crate::refusal::Document;
 
 /// The numbers from `low` to `high`.
 #[derive(Clone, Copy, Debug, PartialEq, Eq)]
@@ -23,9 +25,19 @@ impl Range {
     }
 }
 
-/// The range of each number of a document.
+/// A document whose sizes are known: which one it is, how many numbers it has, and the range of each.
 pub trait Layout {
+    ghost kind: { Self → Document };
+
+    ghost counts: { Self → ℕ };
+
     ghost ranges: { Self → ℕ → Range };
+
+    fn document(&self) -> Document
+        ensures { result ≡ kind self.now };
+
+    fn count(&self) -> usize
+        ensures { result ≡ counts self.now };
 
     fn range(&self, i: usize) -> Range
         ensures { result ≡ ranges self.now i };

@@ -1,11 +1,13 @@
 //! The ranges of the three documents.
 ghost use Rattle.std.specs.Prelude.{◌≡◌, ◌+◌, ◌*◌, ◌/◌, ◌<◌, ◌≤◌, pos, unsigned_abs};
-ghost use Rattle.format.specs.Sizes.{most_numbers};
+ghost use Rattle.format.specs.declared.refusal.Document.TheVariants.{Design, Set, Sheet};
+ghost use Rattle.format.specs.Sizes.{most_numbers, design_count, set_count, sheet_count};
 ghost use Rattle.format.specs.Ranges.{from_to};
 ghost use Rattle.format.specs.Layouts.{design_range, set_range, sheet_range};
 
 use crate::layout::{Layout, Range};
-use crate::sizes::{FACES, NUMBERS};
+use crate::refusal::Document;
+use crate::sizes::{FACES, NUMBERS, Sizes, design_count};
 
 /// What the ranges of a design's numbers depend on: its size, and the denominator that `off` has to be half of.
 #[derive(Clone, Copy)]
@@ -16,7 +18,19 @@ pub(crate) struct DesignLayout {
 }
 
 impl Layout for DesignLayout {
+    ghost kind = { λ _. Design };
+
+    ghost counts = { λ d. design_count d.n };
+
     ghost ranges = { λ d i. design_range d.n d.over i };
+
+    fn document(&self) -> Document {
+        Document::Design
+    }
+
+    fn count(&self) -> usize {
+        design_count(self.n)
+    }
 
     fn range(&self, i: usize) -> Range {
         let n = self.n;
@@ -59,20 +73,32 @@ fn half_up(x: i64) -> i64
     (size / 2 + size % 2) as i64
 }
 
-/// The size of the state, on which it depends where a face's row ends and its top stands.
+/// The sizes of a set: on that of the state it depends where a face's row ends and its top stands.
 #[derive(Clone, Copy)]
 pub(crate) struct SetLayout {
-    pub n: usize,
-    ghost small: { n ≤ most_numbers },
+    pub sizes: Sizes,
 }
 
 impl Layout for SetLayout {
-    ghost ranges = { λ s i. set_range s.n i };
+    ghost kind = { λ _. Set };
+
+    ghost counts = { λ s. set_count s.sizes.n s.sizes.faces };
+
+    ghost ranges = { λ s i. set_range s.sizes.n i };
+
+    fn document(&self) -> Document {
+        Document::Set
+    }
+
+    fn count(&self) -> usize {
+        self.sizes.set_count()
+    }
 
     fn range(&self, i: usize) -> Range {
+        let n = self.sizes.n;
         if i < 1 {
             from_to(1, FACES as i64)
-        } else if (i - 1) % (self.n + 1) < self.n {
+        } else if (i - 1) % (n + 1) < n {
             from_to(-100, 100)
         } else {
             from_to(0, 3_000_000)
@@ -80,12 +106,26 @@ impl Layout for SetLayout {
     }
 }
 
-/// A sheet's ranges depend on nothing.
+/// The sizes of a sheet. Its ranges depend on nothing.
 #[derive(Clone, Copy)]
-pub(crate) struct SheetLayout;
+pub(crate) struct SheetLayout {
+    pub sizes: Sizes,
+}
 
 impl Layout for SheetLayout {
+    ghost kind = { λ _. Sheet };
+
+    ghost counts = { λ s. sheet_count s.sizes.n s.sizes.faces };
+
     ghost ranges = { λ _ i. sheet_range i };
+
+    fn document(&self) -> Document {
+        Document::Sheet
+    }
+
+    fn count(&self) -> usize {
+        self.sizes.sheet_count()
+    }
 
     fn range(&self, i: usize) -> Range {
         if i < 1 {

@@ -3,7 +3,6 @@ ghost use Rattle.format.specs.Reading.{Reads, OneAnswer, Places};
 ghost use Rattle.format.specs.Refusals.{Exact};
 
 use crate::claim::Claim;
-use crate::fill::{fill_certificate, fill_design, fill_faces};
 use crate::refusal::Refusal;
 use crate::sound::check;
 
@@ -11,10 +10,10 @@ use crate::sound::check;
 pub fn read_claim(design: &[u8], set: &[u8], sheet: &[u8]) -> Result<Claim, Refusal>
     ensures { Reads design.now set.now sheet.now result }
 {
-    let sizes = check(design, set, sheet)?;
-    let design = fill_design(design, sizes.n);
-    let faces = fill_faces(set, sizes.n, sizes.faces);
-    let certificate = fill_certificate(sheet, sizes.n, sizes.faces);
+    let sheet = check(design, set, sheet)?;
+    let design = sheet.set.design.read();
+    let faces = sheet.set.read();
+    let certificate = sheet.read();
     Ok(Claim {
         design,
         faces,

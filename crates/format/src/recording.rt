@@ -6,7 +6,6 @@ ghost use Rattle.format.specs.Recordings.{group, width, reading as reading_of, h
 pub use crate::beats::GROUP;
 use crate::beats::check_recording;
 pub use crate::fault::Fault;
-use crate::fill::{fill_design, fill_faces};
 pub use crate::recorded::Recording;
 use linear::row::NUMBERS;
 use std::array;
@@ -19,10 +18,10 @@ const WIDTH: usize = 2;
 pub fn read_recording(design: &[u8], set: &[u8], readings: &[u8]) -> Result<Recording, Fault>
     ensures { Records design.now set.now readings.now result }
 {
-    let sizes = check_recording(design, set, readings)?;
-    let design = fill_design(design, sizes.n);
-    let faces = fill_faces(set, sizes.n, sizes.faces);
-    let beats = readings.len() / (GROUP * sizes.n);
+    let set = check_recording(design, set, readings)?;
+    let design = set.design.read();
+    let faces = set.read();
+    let beats = readings.len() / (GROUP * design.n);
     Ok(Recording {
         design,
         faces,
@@ -66,7 +65,11 @@ fn place(c: u8, i: usize) -> usize
 fn sensor_row(n: usize, bytes: &[u8], c: u8) -> [Reading; NUMBERS]
     ensures { (i : ℕ) → sent_row result i ≡ heard_row n bytes.now c i }
 {
-    array::from_fn(|i| if i < n { reading_at(bytes, place(c, i)) } else { Reading(0) })
+    array::from_fn(|i| if i < n {
+        reading_at(bytes, place(c, i))
+    } else {
+        Reading(0)
+    })
 }
 
 /// What the sensors sent of each of `n` numbers, in the beat that the bytes begin with; 0 stands for what is missing.

@@ -1,7 +1,10 @@
 //! The largest sizes, those of the tables, and how many numbers the documents have.
-ghost use Rattle.std.specs.Prelude.{◌≡◌, ◌≤◌};
+ghost use Rattle.std.specs.Prelude.{◌≡◌, ℕ, ◌≤◌, IfSome};
+ghost use Rattle.std.specs.Option.{option_map};
+ghost use Rattle.format.specs.Reading.{both, size as size_of};
 ghost use Rattle.format.specs.Sizes.{most_numbers, most_faces, design_count, set_count, sheet_count};
 
+use crate::number::number_at;
 pub use linear::row::{NUMBERS, Row};
 
 /// The most faces of a set. The rows of a table over the faces are as far apart.
@@ -22,6 +25,19 @@ pub const SIGNS_BY_FACES: usize = 2 * FACES;
 /// Rows over the faces, for each number of the state and sign.
 pub const SIGNED_NUMBERS_BY_FACES: usize = 2 * NUMBERS * FACES;
 
+/// The size that the document's first number gives, where that is one from 1 to `most`.
+pub(crate) fn size(bytes: &[u8], most: usize) -> Option<usize>
+    ensures value { result ≡ size_of most bytes.now }
+    ensures bound { IfSome result (λ n. (1 ≤ n) × (n ≤ most)) }
+{
+    if bytes.len() < 8 {
+        return None;
+    }
+    usize::try_from(number_at(bytes, 0))
+        .ok()
+        .filter(|n| (1..=most).contains(n))
+}
+
 /// How many numbers a design has.
 pub(crate) fn design_count(n: usize) -> usize
     requires { n ≤ most_numbers }
@@ -30,18 +46,36 @@ pub(crate) fn design_count(n: usize) -> usize
     3 + n * n + n + n + 1 + n + n
 }
 
-/// How many numbers a set has.
-pub(crate) fn set_count(n: usize, faces: usize) -> usize
-    requires { (n ≤ most_numbers) × (faces ≤ most_faces) }
-    ensures { result ≡ set_count n faces }
-{
-    1 + faces * (n + 1)
+/// The size of the state and the count of the faces.
+#[derive(Clone, Copy, Debug, PartialEq, Eq)]
+pub(crate) struct Sizes {
+    pub n: usize,
+    pub faces: usize,
+    ghost sized: { (1 ≤ n) × (n ≤ most_numbers) × (1 ≤ faces) × (faces ≤ most_faces) },
 }
 
-/// How many numbers a sheet has.
-pub(crate) fn sheet_count(n: usize, faces: usize) -> usize
-    requires { (n ≤ most_numbers) × (faces ≤ most_faces) }
-    ensures { result ≡ sheet_count n faces }
-{
-    1 + faces * faces + 2 * faces + 2 * n * faces
+impl Sizes {
+    /// What the first numbers of a design and a set give, once both can be told.
+    pub(crate) fn of(design: &[u8], set: &[u8]) -> Option<Sizes>
+        ensures { (f : ℕ → ℕ → ℕ) → option_map (λ z. f z.n z.faces) result ≡ both f (size_of most_numbers design.now) (size_of most_faces set.now) }
+    {
+        let n = size(design, NUMBERS)?;
+        let faces = size(set, FACES)?;
+        Some(Sizes { n, faces })
+    }
+
+    /// How many numbers a set has.
+    pub(crate) fn set_count(self) -> usize
+        ensures { result ≡ set_count self.n self.faces }
+    {
+        1 + self.faces * (self.n + 1)
+    }
+
+    /// How many numbers a sheet has.
+    pub(crate) fn sheet_count(self) -> usize
+        ensures { result ≡ sheet_count self.n self.faces }
+    {
+        let Sizes { n, faces } = self;
+        1 + faces * faces + 2 * faces + 2 * n * faces
+    }
 }

@@ -1,98 +1,115 @@
-//! Whether a design, a set and a sheet that are given together can be read.
-ghost use Rattle.std.specs.Prelude.{◌≡◌, ◌≤◌, Some, MatchResult};
+//! Sound documents: as long as their sizes say, and each number in its range; or their first fault.
+ghost use Rattle.std.specs.Prelude.{◌≡◌, MatchResult};
 ghost use Rattle.format.specs.Refusals.{Sound, Refused, Whole, Ranged, FirstNumber};
 ghost use Rattle.format.specs.Parts.{DesignBytes, SetBytes, SheetBytes};
-ghost use Rattle.format.specs.Sizes.{most_numbers, most_faces};
 ghost use Rattle.format.specs.declared.refusal.Document.{Document};
-ghost use Rattle.format.specs.Reading.{claim_given as given, design_given, set_given, sheet_given, size as size_of};
+ghost use Rattle.format.specs.Reading.{claim_given as given, design_given, set_given, sheet_given};
 
-use crate::faults::{Extents, fits, in_range, size};
+use crate::faults::{fits, in_range};
 use crate::number::number_at;
 use crate::ranges::{DesignLayout, SetLayout, SheetLayout};
 use crate::refusal::{Document, Refusal};
-use crate::sizes::{FACES, NUMBERS, design_count, set_count, sheet_count};
+use crate::sizes::{FACES, NUMBERS, Sizes, design_count, size};
 
-/// The sizes of sound documents.
+/// The bytes of a sound design, of a state of `n` numbers.
 #[derive(Clone, Copy)]
-pub(crate) struct Sizes {
+pub(crate) struct SoundDesign<'a> {
     pub n: usize,
+    pub bytes: &'a [u8],
+    ghost known: { DesignBytes n bytes.now },
+}
+
+/// The bytes of a sound set of `faces` faces, given with the design.
+#[derive(Clone, Copy)]
+pub(crate) struct SoundSet<'a> {
+    pub design: SoundDesign<'a>,
     pub faces: usize,
+    pub bytes: &'a [u8],
+    ghost known: { SetBytes design.n faces bytes.now },
+}
+
+/// The bytes of a sound sheet, given with the set.
+#[derive(Clone, Copy)]
+pub(crate) struct SoundSheet<'a> {
+    pub set: SoundSet<'a>,
+    pub bytes: &'a [u8],
+    ghost known: { SheetBytes set.design.n set.faces bytes.now },
 }
 
 /// That each document is as long as the sizes in the first numbers say, or the first that ends too early or goes on.
 fn check_lengths(design: &[u8], set: &[u8], sheet: &[u8]) -> Result<(), Refusal>
     ensures { MatchResult result (λ _. (e : Document) → Whole (given design.now set.now sheet.now e)) (Refused (given design.now set.now sheet.now)) }
 {
-    let extents = Extents::of(size(design, NUMBERS), size(set, FACES));
-    fits(Document::Design, design, extents.design)?;
-    fits(Document::Set, set, extents.set)?;
-    fits(Document::Sheet, sheet, extents.sheet)
+    let sizes = Sizes::of(design, set);
+    fits(
+        Document::Design,
+        design,
+        size(design, NUMBERS).map(design_count),
+    )?;
+    fits(Document::Set, set, sizes.map(Sizes::set_count))?;
+    fits(Document::Sheet, sheet, sizes.map(Sizes::sheet_count))
 }
 
-/// The size of the state, or the first number of the design that is out of its range.
-pub(crate) fn check_design(design: &[u8]) -> Result<usize, Refusal>
-    requires { Whole (design_given design.now) }
-    ensures { MatchResult result (λ n. (size_of most_numbers design.now ≡ Some n) × (n ≤ most_numbers) × Ranged (design_given design.now)) (FirstNumber Document.Design (design_given design.now)) }
+/// The sound design, or its first number that is out of its range.
+pub(crate) fn check_design(bytes: &[u8]) -> Result<SoundDesign<'_>, Refusal>
+    requires { Whole (design_given bytes.now) }
+    ensures { MatchResult result (λ d. (d.bytes.now ≡ bytes.now) × Ranged (design_given bytes.now)) (FirstNumber Document.Design (design_given bytes.now)) }
 {
-    let Some(n) = size(design, NUMBERS) else {
+    let Some(n) = size(bytes, NUMBERS) else {
         return Err(Refusal::Range {
             document: Document::Design,
             place: 0,
         });
     };
-    let layout = DesignLayout {
-        n,
-        over: number_at(design, 2),
-    };
-    match in_range(Document::Design, &layout, design, design_count(n)) {
-        Ok(()) => Ok(n),
-        Err(refusal) => Err(refusal),
-    }
+    let over = number_at(bytes, 2);
+    in_range(&DesignLayout { n, over }, bytes)?;
+    Ok(SoundDesign { n, bytes })
 }
 
-/// The count of faces, or the first number of the set that is out of its range.
-pub(crate) fn check_set(n: usize, design: &[u8], set: &[u8]) -> Result<usize, Refusal>
-    requires sized { (size_of most_numbers design.now ≡ Some n) × (n ≤ most_numbers) }
-    requires whole { Whole (set_given design.now set.now) }
-    ensures { MatchResult result (λ c. (size_of most_faces set.now ≡ Some c) × (c ≤ most_faces) × Ranged (set_given design.now set.now)) (FirstNumber Document.Set (set_given design.now set.now)) }
+/// The sound set, or its first number that is out of its range.
+pub(crate) fn check_set<'a>(
+    design: SoundDesign<'a>,
+    bytes: &'a [u8],
+) -> Result<SoundSet<'a>, Refusal>
+    requires { Whole (set_given design.bytes.now bytes.now) }
+    ensures { MatchResult result (λ s. (s.design.bytes.now ≡ design.entry.bytes.now) × (s.bytes.now ≡ bytes.now) × Ranged (set_given design.entry.bytes.now bytes.now)) (FirstNumber Document.Set (set_given design.entry.bytes.now bytes.now)) }
 {
-    let Some(faces) = size(set, FACES) else {
+    let Some(faces) = size(bytes, FACES) else {
         return Err(Refusal::Range {
             document: Document::Set,
             place: 0,
         });
     };
-    let layout = SetLayout { n };
-    match in_range(Document::Set, &layout, set, set_count(n, faces)) {
-        Ok(()) => Ok(faces),
-        Err(refusal) => Err(refusal),
-    }
+    let sizes = Sizes { n: design.n, faces };
+    in_range(&SetLayout { sizes }, bytes)?;
+    Ok(SoundSet {
+        design,
+        faces,
+        bytes,
+    })
 }
 
-/// That the numbers of the sheet are in their ranges, or the first that is not.
-fn check_sheet(
-    n: usize,
-    faces: usize,
-    design: &[u8],
-    set: &[u8],
-    sheet: &[u8],
-) -> Result<(), Refusal>
-    requires sized { (size_of most_numbers design.now ≡ Some n) × (n ≤ most_numbers) }
-    requires counted { (size_of most_faces set.now ≡ Some faces) × (faces ≤ most_faces) }
-    requires whole { Whole (sheet_given design.now set.now sheet.now) }
-    ensures { MatchResult result (λ _. Ranged (sheet_given design.now set.now sheet.now)) (FirstNumber Document.Sheet (sheet_given design.now set.now sheet.now)) }
+/// The sound sheet, or its first number that is out of its range.
+fn check_sheet<'a>(set: SoundSet<'a>, bytes: &'a [u8]) -> Result<SoundSheet<'a>, Refusal>
+    requires { Whole (sheet_given set.design.bytes.now set.bytes.now bytes.now) }
+    ensures { MatchResult result (λ t. (t.set.design.bytes.now ≡ set.entry.design.bytes.now) × (t.set.bytes.now ≡ set.entry.bytes.now) × (t.bytes.now ≡ bytes.now) × Ranged (sheet_given set.entry.design.bytes.now set.entry.bytes.now bytes.now)) (FirstNumber Document.Sheet (sheet_given set.entry.design.bytes.now set.entry.bytes.now bytes.now)) }
 {
-    let layout = SheetLayout;
-    in_range(Document::Sheet, &layout, sheet, sheet_count(n, faces))
+    let sizes = Sizes {
+        n: set.design.n,
+        faces: set.faces,
+    };
+    in_range(&SheetLayout { sizes }, bytes)?;
+    Ok(SoundSheet { set, bytes })
 }
 
-/// The sizes of the documents, or their first fault.
-pub(crate) fn check(design: &[u8], set: &[u8], sheet: &[u8]) -> Result<Sizes, Refusal>
-    ensures { MatchResult result (λ z. Sound (given design.now set.now sheet.now) × DesignBytes z.n design.now × SetBytes z.n z.faces set.now × SheetBytes z.n z.faces sheet.now) (Refused (given design.now set.now sheet.now)) }
+/// The documents, of which each is given with the one before, or their first fault.
+pub(crate) fn check<'a>(
+    design: &'a [u8],
+    set: &'a [u8],
+    sheet: &'a [u8],
+) -> Result<SoundSheet<'a>, Refusal>
+    ensures { MatchResult result (λ t. Sound (given design.now set.now sheet.now) × (t.set.design.bytes.now ≡ design.now) × (t.set.bytes.now ≡ set.now) × (t.bytes.now ≡ sheet.now)) (Refused (given design.now set.now sheet.now)) }
 {
     check_lengths(design, set, sheet)?;
-    let n = check_design(design)?;
-    let faces = check_set(n, design, set)?;
-    check_sheet(n, faces, design, set, sheet)?;
-    Ok(Sizes { n, faces })
+    check_sheet(check_set(check_design(design)?, set)?, sheet)
 }

@@ -7,7 +7,7 @@ ghost use Rattle.format.specs.Values.{law_number, design_number, set_number, she
 use crate::certificate::Certificate;
 use crate::design::Design;
 use crate::faces::Faces;
-use crate::sizes::{FACES, NUMBERS, design_count, set_count, sheet_count};
+use crate::sizes::{FACES, NUMBERS, Sizes, design_count};
 use crate::write::Numbered;
 use linear::table::Table;
 
@@ -78,7 +78,11 @@ impl Numbered for Faces {
     ghost numbers = { λ s i. set_number s i };
 
     fn count(&self) -> usize {
-        set_count(self.n, self.count)
+        let sizes = Sizes {
+            n: self.n,
+            faces: self.count,
+        };
+        sizes.set_count()
     }
 
     fn number(&self, i: usize) -> i64 {
@@ -101,7 +105,11 @@ impl Numbered for Certificate {
     ghost numbers = { λ t i. sheet_number t i };
 
     fn count(&self) -> usize {
-        sheet_count(self.n, self.count)
+        let sizes = Sizes {
+            n: self.n,
+            faces: self.count,
+        };
+        sizes.sheet_count()
     }
 
     fn number(&self, i: usize) -> i64 {

@@ -1,11 +1,11 @@
 use Rattle.std.proofs.Common.{refl}
 use Rattle.format.proofs.Designs.{whole_design, design_spells}
-use Rattle.format.proofs.fill.fill_design.Goals as goal
+use Rattle.format.proofs.sound.SoundDesign.read.Goals as goal
 
 pub invariant_of-result : goal.invariant_of-result
 invariant_of-result c =
     let noise = c.read_row-noise.ensures in
-    let d = whole_design _ _ _ _ _ c.read_row-noise.result c.requires c.natural_at-limit.ensures c.fill_plant-plant.ensures c.fill_law-law.ensures
+    let d = whole_design _ _ _ _ _ c.read_row-noise.result c.args.self.now.known c.natural_at-limit.ensures c.plant-plant.ensures c.law-law.ensures
     (record { each = noise.each; blank = noise.blank; above = noise.above }) in
     record { sized = d.sized; limited = d.limited; halved = d.halved; quiet = d.quiet; blank = d.blank }
 
@@ -13,6 +13,6 @@ pub returns : goal.returns
 returns c =
     let noise = c.read_row-noise.ensures in (
       refl,
-      design_spells _ _ _ _ _ c.read_row-noise.result c.requires c.natural_at-limit.ensures c.fill_plant-plant.ensures c.fill_law-law.ensures
+      design_spells _ _ _ _ _ c.read_row-noise.result c.args.self.now.known c.natural_at-limit.ensures c.plant-plant.ensures c.law-law.ensures
           (record { each = noise.each; blank = noise.blank; above = noise.above }),
     )
