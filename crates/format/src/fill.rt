@@ -44,7 +44,8 @@ impl SoundDesign<'_> {
 
     /// The design.
     pub(crate) fn read(&self) -> Design
-        ensures { (result.n ≡ self.now.n) × Spells self.now.bytes.now (design_count result.n) (design_number result) }
+        ensures n { result.n ≡ self.now.n }
+        ensures spells { Spells self.now.bytes.now (design_count result.n) (design_number result) }
     {
         let SoundDesign { n, bytes } = *self;
         let noise_at = 3 + n * n + n + n + 1 + n;
@@ -95,7 +96,9 @@ impl SoundSet<'_> {
 
     /// The set.
     pub(crate) fn read(&self) -> Faces
-        ensures { (result.n ≡ self.now.design.n) × (result.count ≡ self.now.faces) × Spells self.now.bytes.now (set_count result.n result.count) (set_number result) }
+        ensures n { result.n ≡ self.now.design.n }
+        ensures count { result.count ≡ self.now.faces }
+        ensures spells { Spells self.now.bytes.now (set_count result.n result.count) (set_number result) }
     {
         let h = self.rows();
         let tops = self.tops();
@@ -119,7 +122,9 @@ impl SoundSheet<'_> {
 
     /// The sheet.
     pub(crate) fn read(&self) -> Certificate
-        ensures { (result.n ≡ self.now.set.design.n) × (result.count ≡ self.now.set.faces) × Spells self.now.bytes.now (sheet_count result.n result.count) (sheet_number result) }
+        ensures n { result.n ≡ self.now.set.design.n }
+        ensures count { result.count ≡ self.now.set.faces }
+        ensures spells { Spells self.now.bytes.now (sheet_count result.n result.count) (sheet_number result) }
     {
         let n = self.set.design.n;
         let count = self.set.faces;

@@ -1,4 +1,3 @@
-use Rattle.std.proofs.Common.{refl}
 use Rattle.format.proofs.Designs.{whole_design, design_spells}
 use Rattle.format.proofs.sound.SoundDesign.read.Goals as goal
 
@@ -9,10 +8,8 @@ invariant_of-result c =
     (record { each = noise.each; blank = noise.blank; above = noise.above }) in
     record { sized = d.sized; limited = d.limited; halved = d.halved; quiet = d.quiet; blank = d.blank }
 
-pub returns : goal.returns
-returns c =
-    let noise = c.read_row-noise.ensures in (
-      refl,
-      design_spells _ _ _ _ _ c.read_row-noise.result c.args.self.now.known c.natural_at-limit.ensures c.plant-plant.ensures c.law-law.ensures
-          (record { each = noise.each; blank = noise.blank; above = noise.above }),
-    )
+pub returns-clause-spells : goal.returns-clause-spells
+returns-clause-spells c =
+    let noise = c.read_row-noise.ensures in
+    design_spells _ _ _ _ _ c.read_row-noise.result c.args.self.now.known c.natural_at-limit.ensures c.plant-plant.ensures c.law-law.ensures
+    (record { each = noise.each; blank = noise.blank; above = noise.above })

@@ -1,10 +1,9 @@
-use Rattle.std.proofs.Common.{refl}
 use Rattle.format.specs.declared.faces.Faces.{Faces}
 use Rattle.format.proofs.Sets.{set_spells}
 use Rattle.format.proofs.sound.SoundSet.read.Goals as goal
 
-pub returns : goal.returns
-returns c =
+pub returns-clause-spells : goal.returns-clause-spells
+returns-clause-spells c =
     let rows = c.rows-h.ensures in
     let tops = c.tops-tops.ensures in
     let s : Faces = record {
@@ -16,4 +15,4 @@ returns c =
       above = tops.above;
       blank = (rows.blank, tops.blank);
     } in
-    (refl, refl, set_spells c.args.self.now.bytes.now s c.args.self.now.known rows tops)
+    set_spells c.args.self.now.bytes.now s c.args.self.now.known rows tops

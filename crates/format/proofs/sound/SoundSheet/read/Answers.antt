@@ -1,11 +1,11 @@
-use Rattle.std.proofs.Common.{refl, arith}
+use Rattle.std.proofs.Common.{arith}
 use borrow.Author.Differences.{ints}
 use Rattle.format.specs.declared.certificate.Certificate.{Certificate}
 use Rattle.format.proofs.Sheets.{sheet_spells}
 use Rattle.format.proofs.sound.SoundSheet.read.Goals as goal
 
-pub returns : goal.returns
-returns c =
+pub returns-clause-spells : goal.returns-clause-spells
+returns-clause-spells c =
     let range = c.args.self.now.known.ranged 0 (omega arith) in
     let is = c.natural_at-scale.ensures in
     let m = c.multipliers-m.ensures in
@@ -23,4 +23,4 @@ returns c =
       above = λ s. (m.above s, w.above s, v.above s);
       blank = (m.blank, w.blank, v.blank);
     } in
-    (refl, refl, sheet_spells c.args.self.now.bytes.now t c.args.self.now.known is m w v)
+    sheet_spells c.args.self.now.bytes.now t c.args.self.now.known is m w v
