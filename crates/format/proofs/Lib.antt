@@ -4,9 +4,7 @@ pub mod Chains
 pub mod Checks
 pub mod Designs
 pub mod Exact
-pub mod Known
 pub mod OneRecording
-pub mod Order
 pub mod Ranged
 pub mod Same
 pub mod Sets

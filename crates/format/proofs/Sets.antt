@@ -40,10 +40,10 @@ module _ (bytes : List ℕ) (n c : ℕ) (known : SetBytes n c bytes) where
       let s : 1 + (f * (n + 1) + n) - 1 ≡ f * (n + 1) + n = omega arith in
       rw (s, m) (grind (arith, nat_tests))
 
-  abbrev pub row_block : Block
+  abbrev row_block : Block
   row_block = record { base = 1; rows = c; columns = n; pitch = n + 1; stride = most_numbers; apart = omega arith }
 
-  abbrev pub top_block : Block
+  abbrev top_block : Block
   top_block = record { base = 1 + n; rows = c; columns = 1; pitch = n + 1; stride = 1; apart = omega arith }
 
   same_place : (f j : ℕ) → 1 + (f * (n + 1) + j) ≡ 1 + f * (n + 1) + j
@@ -60,16 +60,10 @@ module _ (bytes : List ℕ) (n c : ℕ) (known : SetBytes n c bytes) where
       let h : In (from_to (negsuc 99) (pos 100)) (number bytes (1 + (f * (n + 1) + j))) = rw (row_range f j q) at (in_range f j p (omega arith)) in
       rw (← same_place f j) (omega (arith, ints))
 
-  pub tops_there : Each top_block (Present bytes)
-  tops_there f j p q = let l = inside f n p (omega arith) in omega (arith, known.whole)
-
   top_in : (f j : ℕ) → f < c → j < 1 → In (from_to (pos 0) (pos 3000000)) (number bytes (1 + n + f * (n + 1) + j))
   top_in f j p q =
       let h : In (from_to (pos 0) (pos 3000000)) (number bytes (1 + (f * (n + 1) + n))) = rw (top_range f) at (in_range f n p (omega arith)) in
       rw (← same_top f j q) h
-
-  pub tops_small : Each top_block (Small 3000000 bytes)
-  tops_small f j p q = let h = top_in f j p q in omega (arith, ints)
 
   pub rows_of : (xs : List ℤ) → length xs ≡ (most_faces * most_numbers) → ((s : ℕ) → s < (most_faces * most_numbers) → at xs s ≡ slot bytes row_block s) → RowsOf n c bytes xs
   rows_of xs long holds = record {

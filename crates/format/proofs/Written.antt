@@ -4,12 +4,11 @@ use borrow.Author.Differences.{ints}
 use Rattle.std.proofs.lemmas.Bool.Decides.{nat_tests}
 use Rattle.format.specs.Numbers.{number}
 use Rattle.format.specs.Reading.{Holds, size, claim_given}
-use Rattle.format.specs.Refusals.{Sound, Whole}
+use Rattle.format.specs.Refusals.{Ranged, Sound, Whole}
 use Rattle.format.specs.Sizes.{most_numbers, most_faces}
 use Rattle.format.specs.declared.claim.Claim.{Claim}
 use Rattle.format.specs.declared.refusal.Document.{Document}
 use Rattle.format.specs.declared.refusal.Document.TheVariants.{Design, Set, Sheet}
-use Rattle.format.proofs.Order.{sound}
 use Rattle.format.proofs.Ranged.{design_ranged, set_ranged, sheet_ranged}
 
 size_is : (most : ℕ) (bytes : List ℕ) (n : ℕ) → 8 ≤ length bytes → number bytes 0 ≡ pos n → 1 ≤ n → n ≤ most → size most bytes ≡ Some n
@@ -30,8 +29,10 @@ module _ (design set sheet : List ℕ) (c : Claim) (h : Holds design set sheet c
   whole Set = rw (n, faces, ← c.agree.0) h.of_set.whole
   whole Sheet = rw (n, faces, ← c.agree.1, ← c.agree.2) h.of_sheet.whole
 
+  ranged : (e : Document) → Ranged (claim_given design set sheet e)
+  ranged Design = rw (n, over) (λ i l. rw (h.of_design.each i l) (design_ranged c.design i l))
+  ranged Set = rw (n, faces, ← c.agree.0) (λ i l. rw (h.of_set.each i l) (set_ranged c.faces i))
+  ranged Sheet = rw (n, faces, ← c.agree.1, ← c.agree.2) (λ i l. rw (h.of_sheet.each i l) (sheet_ranged c.certificate i))
+
   pub written_sound : Sound (claim_given design set sheet)
-  written_sound = sound (claim_given design set sheet) whole
-      (rw (n, over) (λ i l. rw (h.of_design.each i l) (design_ranged c.design i l)))
-      (rw (n, faces, ← c.agree.0) (λ i l. rw (h.of_set.each i l) (set_ranged c.faces i)))
-      (rw (n, faces, ← c.agree.1, ← c.agree.2) (λ i l. rw (h.of_sheet.each i l) (sheet_ranged c.certificate i)))
+  written_sound = record { whole = whole; ranged = ranged }
