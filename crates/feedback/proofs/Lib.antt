@@ -1,3 +1,4 @@
 pub mod Exact
+pub mod Frames
 pub mod Going
 pub mod OneRun

@@ -1,11 +1,12 @@
-use Rattle.std.proofs.Common.{◌*◌, ◌≤◌, mul_comm, mul-le-mul_left, arith}
-use Rattle.format.specs.Recordings.{frame}
+use Rattle.std.proofs.Common.{arith}
+use Rattle.feedback.proofs.Going.{ran_part}
 use Rattle.feedback.proofs.run.run.Goals as goal
 
-pub run_beats-requires : goal.run_beats-requires
-run_beats-requires c =
-    let r = c.in_ok-recording.recording in
-    let count = c.min-count.result in
-    let some : frame r.design.n * count ≤ frame r.design.n * r.beats = mul-le-mul_left (frame r.design.n) (omega arith) in
-    let whole = c.in_ok-recording.ensures.1.whole in
-    record { there = omega (arith, whole, mul_comm r.beats (frame r.design.n)); room = omega arith }
+pub returns : goal.returns
+returns c = record {
+  passes = c.in_ok-recording.ensures.0;
+  recording = c.in_ok-recording.recording;
+  recorded = c.in_ok-recording.ensures.1;
+  counted = omega arith;
+  ran = ran_part c.in_ok-recording.recording.design c.args.readings.now c.min-count.result c.args.out.now c.run_beats.new.out (omega arith) c.run_beats.ensures;
+}
