@@ -11,23 +11,19 @@ use Rattle.feedback.specs.declared.outcome.Outcome.{Outcome}
 use Rattle.feedback.proofs.Exact.{alarms_step}
 
 module _ (d : Design) (readings : List ℕ) where
-  -- one beat more
-  goes_more : (os : List Outcome) (b : ℕ) (a m z : Alarms) (o : Outcome) → Goes d readings b a os m → Comes d m (heard_at d.n readings (b + length os)) o z →
-      Goes d readings b a (os ++ (o ∷ [])) z
-  goes_more [] b a m z o g c =
-      let At : ℕ → Alarms → Type 0 = λ k w. Comes d w (heard_at d.n readings k) o z in
-      (z, subst (At b) g (subst (λ (k : ℕ). At k m) (omega arith) c), refl)
-  goes_more (p ∷ os) b a m z o g c =
-      let At : ℕ → Type 0 = λ k. Comes d m (heard_at d.n readings k) o z in
-      (g.0, g.1, goes_more os (b + 1) g.0 m z o g.2 (subst At (omega arith) c))
+  -- one beat more, which is beat k
+  goes_more : (os : List Outcome) (b k : ℕ) (a m z : Alarms) (o : Outcome) → k ≡ b + length os → Goes d readings b a os m →
+      Comes d m (heard_at d.n readings k) o z → Goes d readings b a (os ++ (o ∷ [])) z
+  goes_more [] b k a m z o at g c =
+      let here : k ≡ b = omega arith in
+      (z, rw (← here, ← g) c, refl)
+  goes_more (p ∷ os) b k a m z o at g c = (g.0, g.1, goes_more os (b + 1) k g.0 m z o (omega arith) g.2 c)
 
   -- the same, written behind the b beats that a slice begins with
   pub goes_on : (out : List Outcome) (b : ℕ) (a m z : Alarms) (o : Outcome) → b < length out → Goes d readings 0 a (take b out) m →
       Comes d m (heard_at d.n readings b) o z → Goes d readings 0 a (take (b + 1) (set out b o)) z
   goes_on out b a m z o l g c =
-      let At : ℕ → Type 0 = λ k. Comes d m (heard_at d.n readings k) o z in
-      let here : b ≡ 0 + length (take b out) = omega (arith, length-take-le b out (omega arith)) in
-      rw take_more_set (goes_more (take b out) 0 a m z o g (subst At here c))
+      rw take_more_set (goes_more (take b out) 0 b a m z o (omega (arith, length-take-le b out (omega arith))) g c)
 
   -- beats that fill the first part of a slice
   pub ran_part : (count : ℕ) (before part : List Outcome) → count ≤ length before →

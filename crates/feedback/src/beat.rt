@@ -29,11 +29,7 @@ pub fn beat(design: &Design, alarms: Alarms, readings: &Readings) -> (Outcome, A
             let bad = alarms.bad();
             (Outcome::Answered { command, bad }, alarms)
         }
-        Err(outside) => {
-            let sensor = outside.sensor;
-            let number = outside.number;
-            (Outcome::Outside { sensor, number }, alarms)
-        }
+        Err(outside) => (outside.into(), alarms),
     }
 }
 

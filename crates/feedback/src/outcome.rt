@@ -1,4 +1,7 @@
 //! What a beat comes to.
+ghost use Rattle.std.specs.Prelude.{◌≡◌};
+ghost use Rattle.feedback.specs.declared.outcome.Outcome.TheVariants.{Outside};
+
 use law::Command;
 use voter::SENSORS;
 
@@ -15,4 +18,13 @@ pub enum Outcome {
         sensor: u8,
         number: u8,
     },
+}
+
+impl From<voter::Outside> for Outcome {
+    ghost from_gives = { λ outside outcome. outcome ≡ Outside outside.sensor outside.number };
+
+    fn from(outside: voter::Outside) -> Outcome {
+        let voter::Outside { sensor, number } = outside;
+        Outcome::Outside { sensor, number }
+    }
 }

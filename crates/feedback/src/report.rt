@@ -1,11 +1,12 @@
 //! The line that a beat prints, and a refusal's number and place.
-ghost use Rattle.std.specs.Prelude.{◌≡◌, ◌+◌, ◌*◌, Some};
+ghost use Rattle.std.specs.Prelude.{◌≡◌, ◌+◌, ◌*◌, Some, false, slice_index_or};
 ghost use Rattle.format.specs.Refusals.{places};
 ghost use Rattle.feedback.specs.Outcomes.{called_bad, line, report as reported};
 
 use crate::outcome::Outcome;
 use format::refusal::PLACES;
 use std::fmt;
+use voter::SENSORS;
 
 /// The number of the refusal of a beat at which two sensors have a reading outside.
 const OUTSIDE_NUMBER: u8 = 9;
@@ -18,18 +19,18 @@ fn place(sensor: u8, number: u8) -> u16
 }
 
 /// The sensors that are called bad, as they stand behind the answer.
-fn called_bad(first: bool, second: bool, third: bool) -> &'static str
-    ensures { result.now ≡ called_bad first second third }
+fn called_bad(bad: [bool; SENSORS]) -> &'static str
+    ensures { result.now ≡ called_bad (slice_index_or bad 0 false) (slice_index_or bad 1 false) (slice_index_or bad 2 false) }
 {
-    match (first, second, third) {
-        (false, false, false) => "",
-        (true, false, false) => " bad 0",
-        (false, true, false) => " bad 1",
-        (true, true, false) => " bad 0 1",
-        (false, false, true) => " bad 2",
-        (true, false, true) => " bad 0 2",
-        (false, true, true) => " bad 1 2",
-        (true, true, true) => " bad 0 1 2",
+    match bad {
+        [false, false, false] => "",
+        [true, false, false] => " bad 0",
+        [false, true, false] => " bad 1",
+        [true, true, false] => " bad 0 1",
+        [false, false, true] => " bad 2",
+        [true, false, true] => " bad 0 2",
+        [false, true, true] => " bad 1 2",
+        [true, true, true] => " bad 0 1 2",
     }
 }
 
@@ -50,11 +51,7 @@ impl fmt::Display for Outcome {
 
     fn fmt<W: fmt::Write>(&self, f: &mut fmt::Formatter<W>) -> fmt::Result {
         match *self {
-            Outcome::Answered { command, bad } => {
-                let u = command.0;
-                let called = called_bad(bad[0], bad[1], bad[2]);
-                write!(f, "{u}{called}")
-            }
+            Outcome::Answered { command, bad } => write!(f, "{}{}", command.0, called_bad(bad)),
             Outcome::Outside { sensor, number } => {
                 let place = place(sensor, number);
                 write!(f, "refused {OUTSIDE_NUMBER} at {place}")
