@@ -19,19 +19,18 @@ module _ (d : Design) (a : Alarms) (ys : Matrix) where
   one_answer u v bad worse b c p q =
       let same = one_middle d.n ys p.y q.y p.voted.of_sent q.voted.of_sent in
       let sums : dot d.n (gains d) p.y ≡ dot d.n (gains d) q.y = sum_same d.n _ _ (λ i l. ap (λ (t : ℤ). gains d i *ℤ t) (same i l)) in
-      let r = subst (λ (s : ℤ). Rounded d.law.over_law s u) sums p.rounded in
+      let r = rw sums at p.rounded in
       q.rounded.only u r.half r.even
 
   pub one_outcome : (o p : Outcome) (b c : Alarms) → Comes d a ys o b → Comes d a ys p c → (o ≡ p) × (b ≡ c)
   one_outcome (Answered u bad) (Answered v worse) b c p q =
       let after : b ≡ c = one_note (sensors_of d) ys p.y q.y a b c p.voted.of_sent q.voted.of_sent p.notes q.notes in
-      let answer : u ≡ v = ap (λ (z : ℤ). record { 0 = z }) (one_answer u.0 v.0 bad worse b c p q) in
-      (ap₂ Answered answer (p.shown ∙ (ap bad_of after ∙ sym q.shown)), after)
+      let answer : u.0 ≡ v.0 = one_answer u.0 v.0 bad worse b c p q in
+      let shown : bad ≡ worse = cc (p.shown, q.shown, ap bad_of after) in
+      (ap₂ Answered (ap (λ (z : ℤ). record { 0 = z }) answer) shown, after)
   one_outcome (Answered u bad) (Outside s i) b c p q = absurd (not_both d.n ys s i p.voted.inside q.0)
   one_outcome (Outside s i) (Answered v worse) b c p q = absurd (not_both d.n ys s i q.voted.inside p.0)
-  one_outcome (Outside s i) (Outside t j) b c p q =
-      let same = one_outside d.n ys s i t j p.0 q.0 in
-      (ap₂ Outside same.0 same.1, p.1 ∙ sym q.1)
+  one_outcome (Outside s i) (Outside t j) b c p q = let same = one_outside d.n ys s i t j p.0 q.0 in (cc, cc)
 
   pub alarms_step : (o : Outcome) (b : Alarms) → Comes d a ys o b → Counted (sensors_of d) ys a b ⊎ Refused (sensors_of d) ys a b
   alarms_step (Answered u bad) b p = inl (record { inside = p.voted.inside; y = p.y; middle = p.voted.of_sent; notes = p.notes })

@@ -18,16 +18,14 @@ one_way d readings [] (p ∷ ps) b a y z l g h = absurd (omega arith)
 one_way d readings (o ∷ os) [] b a y z l g h = absurd (omega arith)
 one_way d readings (o ∷ os) (p ∷ ps) b a y z l g h =
     let same = one_outcome d a (heard_at d.n readings b) o p g.0 h.0 g.1 h.1 in
-    let From : Alarms → Type 0 = λ m. Goes d readings (b + 1) m ps z in
-    ap₂ ◌∷◌ same.0 (one_way d readings os ps (b + 1) g.0 y z (omega arith) g.2 (subst From (sym same.1) h.2))
+    ap₂ ◌∷◌ same.0 (one_way d readings os ps (b + 1) g.0 y z (omega arith) g.2 (rw (← same.1) at h.2))
 
 one_ran : (d : Design) (readings : List ℕ) (count : ℕ) (before after after' : List Outcome) → count ≤ length before → Ran d readings count before after → Ran d readings count before after' → after ≡ after'
 one_ran d readings count before after after' room p q =
     let start = same_alarms p.start q.start (p.fresh.0 ∙ sym q.fresh.0, p.fresh.1 ∙ sym q.fresh.1, p.fresh.2 ∙ sym q.fresh.2) in
     let long : length (take count after) ≡ length (take count after') =
     length-take-le count after (omega (arith, p.long)) ∙ sym (length-take-le count after' (omega (arith, q.long))) in
-    let From : Alarms → Type 0 = λ m. Goes d readings 0 m (take count after') q.end in
-    let taken = one_way d readings (take count after) (take count after') 0 p.start p.end q.end long p.goes (subst From (sym start) q.goes) in
+    let taken = one_way d readings (take count after) (take count after') 0 p.start p.end q.end long p.goes (rw (← start) at q.goes) in
     sym (take-append-drop count after) ∙ (ap₂ ◌++◌ taken (p.rest ∙ sym q.rest) ∙ take-append-drop count after')
 
 module _ (design set readings : List ℕ) (before after after' : List Outcome) where
