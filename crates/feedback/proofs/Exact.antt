@@ -25,9 +25,9 @@ module _ (d : Design) (a : Alarms) (ys : Matrix) where
   pub one_outcome : (o p : Outcome) (b c : Alarms) → Comes d a ys o b → Comes d a ys p c → (o ≡ p) × (b ≡ c)
   one_outcome (Answered u bad) (Answered v worse) b c p q =
       let after : b ≡ c = one_note (sensors_of d) ys p.y q.y a b c p.voted.of_sent q.voted.of_sent p.notes q.notes in
-      let answer : u.0 ≡ v.0 = one_answer u.0 v.0 bad worse b c p q in
+      let answer : u ≡ v = ap (λ (z : ℤ). record { 0 = z }) (one_answer u.0 v.0 bad worse b c p q) in
       let shown : bad ≡ worse = cc (p.shown, q.shown, ap bad_of after) in
-      (ap₂ Answered (ap (λ (z : ℤ). record { 0 = z }) answer) shown, after)
+      (ap₂ Answered answer shown, after)
   one_outcome (Answered u bad) (Outside s i) b c p q = absurd (not_both d.n ys s i p.voted.inside q.0)
   one_outcome (Outside s i) (Answered v worse) b c p q = absurd (not_both d.n ys s i q.voted.inside p.0)
   one_outcome (Outside s i) (Outside t j) b c p q = let same = one_outside d.n ys s i t j p.0 q.0 in (cc, cc)

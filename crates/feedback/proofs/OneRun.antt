@@ -22,20 +22,19 @@ one_way d readings (o ∷ os) (p ∷ ps) b a y z l g h =
 
 one_ran : (d : Design) (readings : List ℕ) (count : ℕ) (before after after' : List Outcome) → count ≤ length before → Ran d readings count before after → Ran d readings count before after' → after ≡ after'
 one_ran d readings count before after after' room p q =
-    let start = same_alarms p.start q.start (p.fresh.0 ∙ sym q.fresh.0, p.fresh.1 ∙ sym q.fresh.1, p.fresh.2 ∙ sym q.fresh.2) in
+    let start : p.start ≡ q.start = same_alarms p.start q.start (cc, cc, cc) in
     let long : length (take count after) ≡ length (take count after') =
-    length-take-le count after (omega (arith, p.long)) ∙ sym (length-take-le count after' (omega (arith, q.long))) in
-    let taken = one_way d readings (take count after) (take count after') 0 p.start p.end q.end long p.goes (rw (← start) at q.goes) in
-    sym (take-append-drop count after) ∙ (ap₂ ◌++◌ taken (p.rest ∙ sym q.rest) ∙ take-append-drop count after')
+    omega (arith, p.long, q.long, length-take-le count after (omega arith), length-take-le count after' (omega arith)) in
+    let taken : take count after ≡ take count after' =
+    one_way d readings (take count after) (take count after') 0 p.start p.end q.end long p.goes (rw (← start) at q.goes) in
+    cc (p.rest, q.rest, take-append-drop count after, take-append-drop count after')
 
 module _ (design set readings : List ℕ) (before after after' : List Outcome) where
   one_taken : (m n : ℕ) → Taken design set readings before after m → Taken design set readings before after' n → (m ≡ n) × (after ≡ after')
   one_taken m n p q =
-      let same = one_recorded design set readings p.recording q.recording p.recorded q.recorded in
-      let counts : m ≡ n = p.counted ∙ (ap (λ (r : Recording). min r.beats (length before)) same ∙ sym q.counted) in
-      let By : Design → ℕ → Type 0 = λ d k. Ran d readings k before after' in
-      let ran = subst (λ (k : ℕ). By p.recording.design k) (sym counts) (subst (λ (r : Recording). By r.design n) (sym same) q.ran) in
-      (counts, one_ran p.recording.design readings m before after after' (omega (arith, p.counted)) p.ran ran)
+      let same : p.recording ≡ q.recording = one_recorded design set readings p.recording q.recording p.recorded q.recorded in
+      let counts : m ≡ n = cc (p.counted, q.counted) in
+      (counts, one_ran p.recording.design readings m before after after' (omega (arith, p.counted)) p.ran (rw (← same, ← counts) at q.ran))
 
   pub one_run : (q r : Result ℕ Fault) → Runs design set readings before after q → Runs design set readings before after' r → (q ≡ r) × (after ≡ after')
   one_run (Ok m) (Ok n) p q = let same = one_taken m n p q in (ap Ok same.0, same.1)

@@ -17,6 +17,7 @@ fn run_beats(design: &Design, readings: &[u8], out: &mut [Outcome])
 {
     let mut alarms = Alarms::new();
     let mut rest = readings;
+    // No `zip` with the frames: after a loop over a zipped `iter_mut` nothing is known of what `out` holds.
     for slot in out.iter_mut() {
         let (frame, later) = rest.split_at(GROUP * design.n);
         (*slot, alarms) = beat(design, alarms, &readings_of(design.n, frame));
