@@ -1,8 +1,7 @@
 -- A beat comes to one thing only, and takes the alarms one step on.
-use Rattle.std.proofs.Common.{◌≡◌, Bool, ◌⊎◌, List, ℤ, ◌*ℤ◌, sym, ap, ◌∙◌, subst, ap₂, inl, inr}
+use Rattle.std.proofs.Common.{◌≡◌, Bool, ◌⊎◌, List, ℤ, ◌*ℤ◌, ap, ap₂, inl, inr}
 use Rattle.linear.proofs.SumLaws.{sum_same}
 use Rattle.linear.specs.Vectors.{Matrix, dot}
-use Rattle.law.specs.Answers.{Rounded}
 use Rattle.voter.proofs.Outsides.{not_both, one_outside}
 use Rattle.voter.proofs.Same.{one_note}
 use Rattle.voter.proofs.Voting.{one_middle}

@@ -1,14 +1,11 @@
 -- The bytes of one beat, cut from a recording.
-use Rattle.std.proofs.Common.{◌≡◌, ℕ, ◌+◌, ◌*◌, ◌<◌, min, Bool, true, false, cond, List, get_or, take, drop, nat_lt, refl, ap, ap₂, ◌∙◌, mul-le-mul_left, arith}
+use Rattle.std.proofs.Common.{◌≡◌, ℕ, ◌+◌, ◌*◌, ◌<◌, min, Bool, true, false, cond, List, take, drop, nat_lt, refl, ap, ap₂, ◌∙◌, arith, to_z}
 use Rattle.std.specs.Int.{w16}
-use Rattle.std.proofs.Common.{to_z}
 use Rattle.std.proofs.lemmas.Bool.{ltb-true}
 use Rattle.std.proofs.lemmas.List.{drop-drop, get_or-take}
 use Rattle.linear.specs.Rows.{most_numbers}
-use Rattle.linear.specs.Vectors.{Matrix}
 use Rattle.voter.specs.Sizes.{sensors}
 use Rattle.format.specs.Recordings.{frame, heard, reading}
-use Rattle.feedback.specs.Runs.{heard_at}
 
 -- two choices agree where each is taken
 where_true : {A : Type 0} (b : Bool) (x y z : A) → (b ≡ true → x ≡ y) → cond b x z ≡ cond b y z

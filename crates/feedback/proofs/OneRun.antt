@@ -1,11 +1,10 @@
 -- Running a recording has one answer.
-use Rattle.std.proofs.Common.{◌≡◌, ℕ, ◌+◌, ◌≤◌, min, List, [], ◌∷◌, ◌++◌, length, take, Ok, Err, Result, sym, refl, ap, ◌∙◌, subst, ap₂, arith}
+use Rattle.std.proofs.Common.{◌≡◌, ℕ, ◌+◌, ◌≤◌, List, [], ◌∷◌, length, take, Ok, Err, Result, sym, refl, ap, ◌∙◌, ap₂, arith}
 use Rattle.std.proofs.lemmas.List.{length-take-le, take-append-drop}
 use Rattle.voter.proofs.Same.{same_alarms}
 use Rattle.voter.specs.declared.watch.Alarms.{Alarms}
 use Rattle.format.proofs.OneRecording.{one_recorded, recording_exact}
 use Rattle.format.specs.declared.design.Design.{Design}
-use Rattle.format.specs.declared.recorded.Recording.{Recording}
 use Rattle.format.specs.declared.fault.Fault.{Fault}
 use Rattle.feedback.specs.Runs.{Goes, Ran, Runs, Taken, heard_at}
 use Rattle.feedback.specs.declared.outcome.Outcome.{Outcome}

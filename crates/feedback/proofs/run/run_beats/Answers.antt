@@ -1,8 +1,7 @@
-use Rattle.std.proofs.Common.{◌≡◌, ℕ, List, length, take, drop, ap, ◌∙◌, subst, arith}
+use Rattle.std.proofs.Common.{◌≡◌, ℕ, length, ◌∙◌, subst, arith}
 use Rattle.std.proofs.lemmas.Grind.{common_steps}
 use Rattle.linear.specs.Vectors.{Matrix}
 use Rattle.voter.specs.Sent.{sent}
-use Rattle.format.specs.Recordings.{frame, heard}
 use Rattle.feedback.specs.Beats.{Comes}
 use Rattle.feedback.specs.Runs.{heard_at}
 use Rattle.feedback.proofs.Frames.{drop_beat, heard_of_frame}
