@@ -1,21 +1,27 @@
 //! The line that a beat prints, and a refusal's number and place.
 ghost use Rattle.std.specs.Prelude.{◌≡◌, ◌+◌, ◌*◌, Some, false, slice_index_or};
+ghost use Rattle.std.specs.Option.{option_map};
 ghost use Rattle.format.specs.Refusals.{places};
-ghost use Rattle.feedback.specs.Outcomes.{called_bad, line, report as reported};
+ghost use Rattle.feedback.specs.Outcomes.{called_bad, line, outside_number, report as reported};
 
 use crate::outcome::Outcome;
 use format::refusal::PLACES;
+use format::report::Report;
 use std::fmt;
 use voter::SENSORS;
 
 /// The number of the refusal of a beat at which two sensors have a reading outside.
 const OUTSIDE_NUMBER: u8 = 9;
 
-/// The place of a refusal, sensor after sensor and number after number.
-fn place(sensor: u8, number: u8) -> u16
-    ensures { result ≡ sensor * places + number }
+/// What is told of it: the places go sensor after sensor and number after number.
+fn outside(sensor: u8, number: u8) -> Report
+    ensures number { result.number ≡ outside_number }
+    ensures place { result.place ≡ sensor * places + number }
 {
-    u16::from(sensor) * u16::from(PLACES) + u16::from(number)
+    Report {
+        number: OUTSIDE_NUMBER,
+        place: usize::from(sensor) * usize::from(PLACES) + usize::from(number),
+    }
 }
 
 /// The sensors that are called bad, as they stand behind the answer.
@@ -35,13 +41,13 @@ fn called_bad(bad: [bool; SENSORS]) -> &'static str
 }
 
 impl Outcome {
-    /// The refusal's number and its place, where the beat is refused.
-    pub fn refusal(self) -> Option<(u8, u16)>
-        ensures { result ≡ reported self }
+    /// The number and the place of the refusal, where the beat is refused.
+    pub fn refusal(self) -> Option<Report>
+        ensures { option_map (λ r. (r.number, r.place)) result ≡ reported self }
     {
         match self {
             Outcome::Answered { .. } => None,
-            Outcome::Outside { sensor, number } => Some((OUTSIDE_NUMBER, place(sensor, number))),
+            Outcome::Outside { sensor, number } => Some(outside(sensor, number)),
         }
     }
 }
@@ -52,10 +58,7 @@ impl fmt::Display for Outcome {
     fn fmt<W: fmt::Write>(&self, f: &mut fmt::Formatter<W>) -> fmt::Result {
         match *self {
             Outcome::Answered { command, bad } => write!(f, "{}{}", command.0, called_bad(bad)),
-            Outcome::Outside { sensor, number } => {
-                let place = place(sensor, number);
-                write!(f, "refused {OUTSIDE_NUMBER} at {place}")
-            }
+            Outcome::Outside { sensor, number } => outside(sensor, number).fmt(f),
         }
     }
 }
