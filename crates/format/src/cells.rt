@@ -9,25 +9,27 @@ use crate::block::Block;
 use crate::number::number_at;
 use linear::table::Table;
 
-/// The number of the document that stands in row `i` and column `j` of the block.
-fn place(block: Block, i: usize, j: usize) -> usize
-    requires { place_of block i j < 2 ^ 64 }
-    ensures { result ≡ place_of block i j }
-{
-    block.base + i * block.pitch + j
-}
+impl Block {
+    /// The number of the document that stands in row `i` and column `j`.
+    fn place(self, i: usize, j: usize) -> usize
+        requires { place_of self i j < 2 ^ 64 }
+        ensures { result ≡ place_of self i j }
+    {
+        self.base + i * self.pitch + j
+    }
 
-/// What cell `s` of the block's table holds.
-fn slot(bytes: &[u8], block: Block, s: usize) -> i64
-    requires { Each block (Present bytes.now) }
-    ensures { result ≡ slot_of bytes.now block s }
-{
-    let i = s / block.stride;
-    let j = s % block.stride;
-    if i < block.rows && j < block.columns {
-        number_at(bytes, place(block, i, j))
-    } else {
-        0
+    /// What cell `s` of the block's table holds.
+    fn slot(self, bytes: &[u8], s: usize) -> i64
+        requires { Each self (Present bytes.now) }
+        ensures { result ≡ slot_of bytes.now self s }
+    {
+        let i = s / self.stride;
+        let j = s % self.stride;
+        if i < self.rows && j < self.columns {
+            number_at(bytes, self.place(i, j))
+        } else {
+            0
+        }
     }
 }
 
@@ -41,9 +43,10 @@ pub(crate) fn read_block<const LEN: usize, const BOUND: u32>(
     requires small { Each block (Small BOUND bytes.now) }
     ensures { (s : ℕ) → s < LEN → entry_of result.cells s ≡ slot_of bytes.now block s }
 {
+    // Not `array::from_fn`: at a length that is a parameter it asks each caller for a proof that the array fits memory.
     let mut cells = [0i32; LEN];
     for s in 0..LEN {
-        cells[s] = slot(bytes, block, s) as i32;
+        cells[s] = block.slot(bytes, s) as i32;
     }
     Table { cells }
 }

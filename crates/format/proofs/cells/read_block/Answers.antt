@@ -6,14 +6,6 @@ use Rattle.format.specs.Slots.{slot}
 use Rattle.format.proofs.Tables.{slot_small}
 use Rattle.format.proofs.cells.read_block.Goals as goal
 
-pub loop-s-init : goal.loop-s-init
-loop-s-init g c = (length-replicate g.row.LEN (pos 0), zeros_within _ _, λ k h. absurd (omega arith))
-
-pub overflow_cast-cells : goal.overflow_cast-cells
-overflow_cast-cells g c =
-    let small = slot_small _ c.args.block _ c.requires.small c.loop-s.s in
-    omega (arith, ints, small, c.slot.ensures, c.requires.narrow)
-
 pub loop-s-preserved : goal.loop-s-preserved
 loop-s-preserved g c =
     let f : ℕ → ℤ = slot c.args.bytes.now c.args.block in
