@@ -1,7 +1,8 @@
 -- The alarms over any number of beats.
-use Rattle.std.proofs.Common.{◌≡◌, ℕ, zero, suc, ◌*◌, ◌<◌, Bool, true, false, ◌⊎◌, List, [], ◌∷◌, map, length, ℤ, ◌-ℤ◌, nat_abs, refl, ap, ◌∙◌, inl, inr, arith}
+use Rattle.std.proofs.Common.{◌≡◌, ℕ, zero, suc, ◌*◌, ◌<◌, Bool, true, false, ◌⊎◌, List, [], ◌∷◌, map, ℤ, ◌-ℤ◌, nat_abs, refl, ap, ◌∙◌, inl, inr, arith}
 use borrow.Author.Differences.{ints}
 use Rattle.std.proofs.lemmas.Bool.{le-ltb, lt-ltb, or_from, or_right}
+use Rattle.std.proofs.lemmas.List.{length-map}
 use Rattle.std.specs.List.{AllByRecursion}
 use Rattle.linear.specs.Rows.{range}
 use Rattle.linear.specs.Vectors.{Vector, Matrix}
@@ -52,7 +53,7 @@ module _ (s : Sensors) (c : ℕ) (c_is : c < sensors) where
   counted e a b k =
       let ys = e.ys in
       each_at (λ d. seen_of b d ≡ noted (differs s.n (noise_of s) k.y (ys d)) (seen_of a d)) k.notes c c_is
-      ∙ ap (λ (t : Bool). noted t (seen_of a c)) (differs_same s.n (noise_of s) ys k.y (mids ys) (ys c) k.middle (λ i l. mid_between (ys 0 i) (ys 1 i) (ys 2 i)))
+      ∙ ap (λ (t : Bool). noted t (seen_of a c)) (differs_same s.n (noise_of s) ys k.y (mids ys) (ys c) k.middle (λ i l. mid_between (ys 0 i) (ys 1 i) (ys 2 i) (mids ys i) refl))
 
   -- a sound beat is taken
   taken : (e : Sample) (a b : Alarms) → SoundAt s e → Counted s e.ys a b ⊎ Refused s e.ys a b → seen_of b c ≡ noted (flag e) (seen_of a c)
@@ -67,7 +68,7 @@ module _ (s : Sensors) (c : ℕ) (c_is : c < sensors) where
 
   near : (e : Sample) → SoundAt s e → Near s.n (noise_of s) e.x (mids e.ys)
   near e sound =
-      close s.n (noise_of s) e.x (mids e.ys) e.ys (two_true s.n (noise_of s) (λ _. e.x) sound.faulty e.ys sound.readings) (λ i l. mid_between (e.ys 0 i) (e.ys 1 i) (e.ys 2 i))
+      close s.n (noise_of s) e.x (mids e.ys) e.ys (two_true s.n (noise_of s) (λ _. e.x) sound.faulty e.ys sound.readings) (λ i l. mid_between (e.ys 0 i) (e.ys 1 i) (e.ys 2 i) (mids e.ys i) refl)
 
   quiet : (es : List Sample) → AllByRecursion (SoundAt s) es → AllByRecursion (True s c) es → AllByRecursion (λ d. d ≡ false) (map flag es)
   quiet [] sound r = tt
@@ -84,17 +85,13 @@ module _ (s : Sensors) (c : ℕ) (c_is : c < sensors) where
   kept (e ∷ es) a b (m, inl k, rest) h = kept es m b rest (ap (λ (t : Seen). t.bad) (counted e a m k) ∙ one.kept_once (seen_of a c) (flag e) h)
   kept (e ∷ es) a b (m, inr p, rest) h = kept es m b rest (ap (λ (t : Alarms). (seen_of t c).bad) p.same ∙ h)
 
-length_map : {A B : Type 0} (f : A → B) (xs : List A) → length (map f xs) ≡ length xs
-length_map f [] = refl
-length_map f (x ∷ xs) = ap suc (length_map f xs)
-
 pub alarming : Alarming
 alarming =
     record {
       spared = λ s a b es c l sound r g. ap (λ (t : Seen). t.bad) (over s c l es a b sound g) ∙ one.spared (seen_of a c) (map (flag s c l) es) (quiet s c l es sound r);
       caught = λ s a b es c l n sound r g.
           ap (λ (t : Seen). t.bad) (over s c l es a b sound g)
-          ∙ (let long = length_map (flag s c l) es in one.caught (seen_of a c) (map (flag s c l) es) (omega arith) (omega arith) (loud s c l es sound r));
+          ∙ one.caught (seen_of a c) (map (flag s c l) es) (omega (arith, length-map es (flag s c l))) (omega (arith, length-map es (flag s c l))) (loud s c l es sound r);
       far = λ s c e t i l near off. (i, l, omega (arith, ints));
       kept = λ s a b es c l g h. kept s c l es a b g h;
     }

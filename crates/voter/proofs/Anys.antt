@@ -1,31 +1,20 @@
 -- Whether something is so of some number below n.
-use Rattle.std.proofs.Common.{◌≡◌, ℕ, zero, suc, ◌+◌, ◌<◌, Bool, true, false, ◌||◌, refl, inl, inr, add-one, arith}
-use Rattle.std.proofs.lemmas.Bool.{cases_lt, or_from, or_left, or_right}
-use Rattle.voter.specs.Differences.{any}
+use Rattle.std.proofs.Common.{◌≡◌, ℕ, zero, suc, ◌+◌, ◌<◌, Bool, true, false, zero-add, refl, arith}
+use Rattle.std.proofs.lemmas.List.Elements.{All-from_get_or}
+use Rattle.std.proofs.lemmas.List.FromFn.{get_or-range_with_len, length-range_with_len}
+use Rattle.std.proofs.lemmas.List.Folds.{list_any_at, list_any_none}
+use Rattle.std.specs.List.{list_any, range_with_len}
 
-pub any_none : (f : ℕ → Bool) → false ≡ any 0 f
-unfolding any
-any_none f = refl
+pub any_false : (f : ℕ → Bool) (n : ℕ) → ((i : ℕ) → i < n → f i ≡ false) → list_any f (range_with_len 0 n) ≡ false
+any_false f n h =
+    list_any_none f (range_with_len 0 n) (All-from_get_or (λ i. f i ≡ false) (range_with_len 0 n) 0 (λ i l. let k : i < n = omega (arith, length-range_with_len 0 n) in rw (get_or-range_with_len, zero-add) (h i k)))
 
-pub any_more : (f : ℕ → Bool) (i : ℕ) (found new : Bool) → found ≡ any i f → new ≡ f i → (found || new) ≡ any (i + 1) f
-unfolding any
-any_more f i found new e g = rw (add-one, e, g) refl
+pub any_true : (f : ℕ → Bool) (n i : ℕ) → i < n → f i ≡ true → list_any f (range_with_len 0 n) ≡ true
+any_true f n i l e = list_any_at f (range_with_len 0 n) i 0 (omega (arith, length-range_with_len 0 n)) (rw (get_or-range_with_len, zero-add) e)
 
-pub any_false : (f : ℕ → Bool) (n : ℕ) → ((i : ℕ) → i < n → f i ≡ false) → any n f ≡ false
-unfolding any
-any_false f zero h = refl
-any_false f (suc n) h = or_from _ _ (any_false f n (λ i l. h i (omega arith))) (h n (omega arith))
+same_from : (f g : ℕ → Bool) (a n : ℕ) → ((i : ℕ) → i < a + n → f i ≡ g i) → list_any f (range_with_len a n) ≡ list_any g (range_with_len a n)
+same_from f g a zero h = refl
+same_from f g a (suc n) h = rw (h a (omega arith), same_from f g (a + 1) n (λ i l. h i (omega arith))) refl
 
-pub any_true : (f : ℕ → Bool) (n i : ℕ) → i < n → f i ≡ true → any n f ≡ true
-unfolding any
-any_true f zero i l e = absurd (omega arith)
-any_true f (suc n) i l e =
-    elim (cases_lt i n) [
-      | inl k ↦ or_left _ _ (any_true f n i k e)
-      | inr k ↦ let s : n ≡ i = omega arith in or_right (any n f) (f n) (rw s e)
-    ]
-
-pub any_same : (f g : ℕ → Bool) (n : ℕ) → ((i : ℕ) → i < n → f i ≡ g i) → any n f ≡ any n g
-unfolding any
-any_same f g zero h = refl
-any_same f g (suc n) h = rw (any_same f g n (λ i l. h i (omega arith)), h n (omega arith)) refl
+pub any_same : (f g : ℕ → Bool) (n : ℕ) → ((i : ℕ) → i < n → f i ≡ g i) → list_any f (range_with_len 0 n) ≡ list_any g (range_with_len 0 n)
+any_same f g n h = same_from f g 0 n (λ i l. h i (omega arith))

@@ -1,7 +1,6 @@
 -- What two true sensors of three come to.
-use Rattle.std.proofs.Common.{ℕ, ◌≤◌, ℤ, ◌-ℤ◌, nat_abs, inl, inr, arith}
+use Rattle.std.proofs.Common.{ℕ, ◌≤◌, ℤ, ◌-ℤ◌, nat_abs, arith}
 use borrow.Author.Differences.{ints}
-use Rattle.std.proofs.lemmas.Bool.{cases_order}
 use Rattle.linear.specs.Vectors.{Vector, Matrix}
 use Rattle.voter.specs.Faults.{Near, Readings}
 use Rattle.voter.specs.Middles.{Between, Middle, Two, TwoOf}
@@ -10,12 +9,7 @@ use Rattle.voter.proofs.Voting.{two_map}
 
 -- of three sensors one at most is faulty, so that two are not
 pub two_true : (n : ℕ) (noise : ℕ → ℕ) (read : ℕ → Vector) (faulty : ℕ) (ys : Matrix) → Readings n noise read faulty ys → Two (λ c. Near n noise (read c) (ys c))
-two_true n noise read faulty ys r =
-    elim (cases_order faulty 1) [
-      | inl e ↦ inr (inl (r.true_ones 0 (omega arith) (λ q. omega arith), r.true_ones 2 (omega arith) (λ q. omega arith)))
-      | inr (inl l) ↦ inr (inr (r.true_ones 1 (omega arith) (λ q. omega arith), r.true_ones 2 (omega arith) (λ q. omega arith)))
-      | inr (inr l) ↦ inl (r.true_ones 0 (omega arith) (λ q. omega arith), r.true_ones 1 (omega arith) (λ q. omega arith))
-    ]
+two_true n noise read faulty ys r = grind (arith, r.true_ones)
 
 close_one : (a b c y x : ℤ) (w : ℕ) → Between a b c y → TwoOf (nat_abs (a -ℤ x) ≤ w) (nat_abs (b -ℤ x) ≤ w) (nat_abs (c -ℤ x) ≤ w) → nat_abs (y -ℤ x) ≤ w
 close_one a b c y x w m h = grind (arith, ints)

@@ -1,5 +1,6 @@
 -- One sensor over any number of beats, at each of which it differs or does not.
-use Rattle.std.proofs.Common.{◌≡◌, ◌+◌, ◌≤◌, min, Bool, true, false, ◌||◌, List, [], ◌∷◌, length, refl, ◌∙◌, arith}
+use Rattle.std.proofs.Common.{◌≡◌, ◌+◌, ◌≤◌, min, Bool, true, false, List, [], ◌∷◌, length, refl, ◌∙◌, arith}
+use Rattle.std.proofs.Math.Bool.{or-false}
 use Rattle.std.proofs.lemmas.Bool.{eq-eqb, or_left, or_right}
 use Rattle.std.specs.List.{AllByRecursion}
 use Rattle.voter.specs.Counts.{Seen, noted}
@@ -9,13 +10,9 @@ abbrev pub after : Seen → List Bool → Seen
 after s [] = s
 after s (d ∷ ds) = after (noted d s) ds
 
-or_false : (b : Bool) → (b || false) ≡ b
-or_false true = refl
-or_false false = refl
-
 pub spared : (s : Seen) (ds : List Bool) → AllByRecursion (λ d. d ≡ false) ds → (after s ds).bad ≡ s.bad
 spared s [] h = refl
-spared s (d ∷ ds) h = spared (noted d s) ds h.1 ∙ rw h.0 (or_false s.bad)
+spared s (d ∷ ds) h = spared (noted d s) ds h.1 ∙ rw h.0 (or-false s.bad)
 
 -- the beats that are left bring the count to the end
 pub caught : (s : Seen) (ds : List Bool) → persistence ≤ s.count + length ds → 1 ≤ length ds → AllByRecursion (λ d. d ≡ true) ds → (after s ds).bad ≡ true

@@ -1,13 +1,13 @@
 -- The middle one of three is between them, and nothing else is.
-use Rattle.std.proofs.Common.{◌≡◌, ℕ, ◌<◌, ℤ, ◌≤ℤ◌, inl, inr, arith}
+use Rattle.std.proofs.Common.{◌≡◌, ℕ, ◌<◌, ℤ, ◌≤ℤ◌, refl, inl, inr, arith}
 use borrow.Author.Differences.{ints}
 use Rattle.std.proofs.lemmas.Bool.{lt-ltb}
 use Rattle.linear.specs.Vectors.{Vector, Matrix, filled}
 use Rattle.voter.specs.Middles.{Between, Middle, TwoOf, mid}
 use Rattle.voter.specs.Votes.{mids}
 
-pub mid_between : (a b c : ℤ) → Between a b c (mid a b c)
-mid_between a b c = grind (arith, ints)
+pub mid_between : (a b c y : ℤ) → y ≡ mid a b c → Between a b c y
+mid_between a b c y e = rw e (grind (arith, ints))
 
 -- of three, two are not below y and two are not above z, so that one is neither
 not_above : (a b c y z : ℤ) → Between a b c y → Between a b c z → y ≤ℤ z
@@ -30,4 +30,4 @@ two_map f g h (inr (inr (q, r))) = inr (inr (g q, h r))
 
 -- a row of middles has the middle one of each number
 pub filled_middle : (n : ℕ) (ys : Matrix) (y : Vector) → ((i : ℕ) → y i ≡ filled n (mids ys) i) → Middle n ys y
-filled_middle n ys y h i l = rw (h i, lt-ltb i n l) (mid_between (ys 0 i) (ys 1 i) (ys 2 i))
+filled_middle n ys y h i l = mid_between (ys 0 i) (ys 1 i) (ys 2 i) (y i) (rw (h i, lt-ltb i n l) refl)

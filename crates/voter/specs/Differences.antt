@@ -1,17 +1,13 @@
 -- Which sensors differ from the middle at a beat.
-use Rattle.std.specs.Prelude.{ℕ, zero, suc, ◌*◌, Bool, false, ◌||◌, ℤ, ◌-ℤ◌, nat_lt, unsigned_abs}
-use Rattle.linear.specs.Rows.{range}
+use Rattle.std.specs.Prelude.{ℕ, ◌*◌, Bool, ◌||◌, ℤ, ◌-ℤ◌, nat_lt, unsigned_abs}
+use Rattle.std.specs.List.{list_any, range_with_len}
 use Rattle.linear.specs.Vectors.{Vector}
-
--- f of some number below n
-unfoldable pub any : ℕ → (ℕ → Bool) → Bool
-any zero f = false
-any (suc n) f = any n f || f n
+use Rattle.voter.specs.Ranges.{outside}
 
 -- a reading y is outside, or more than two noises from the middle m
 abbrev pub strays : ℤ → ℤ → ℕ → Bool
-strays y m noise = nat_lt range (unsigned_abs y) || nat_lt (2 * noise) (unsigned_abs (y -ℤ m))
+strays y m noise = outside y || nat_lt (2 * noise) (unsigned_abs (y -ℤ m))
 
 -- one of the first n readings ys of a sensor strays from the middle m
 abbrev pub differs : ℕ → (ℕ → ℕ) → Vector → Vector → Bool
-differs n noise m ys = any n (λ i. strays (ys i) (m i) (noise i))
+differs n noise m ys = list_any (λ i. strays (ys i) (m i) (noise i)) (range_with_len 0 n)

@@ -1,10 +1,14 @@
 -- The range of readings: what is inside, and what becomes of a reading outside.
-use Rattle.std.specs.Prelude.{ℕ, ◌+◌, ◌<◌, ◌≤◌, ℤ, pos, neg_ℤ, unsigned_abs}
+use Rattle.std.specs.Prelude.{ℕ, ◌+◌, ◌<◌, ◌≤◌, Bool, ℤ, pos, neg_ℤ, nat_lt, unsigned_abs}
 use Rattle.std.specs.Int.{int_min, int_max}
 use Rattle.linear.specs.Rows.{range}
 use Rattle.linear.specs.Vectors.{Vector, Matrix}
 use Rattle.voter.specs.Middles.{Two}
 use Rattle.voter.specs.Sizes.{sensors}
+
+-- a reading is outside
+abbrev pub outside : ℤ → Bool
+outside y = nat_lt range (unsigned_abs y)
 
 -- the first n readings of a sensor are inside
 abbrev pub InRange : ℕ → Vector → Type 0

@@ -1,39 +1,49 @@
 //! Counting the beats at which a sensor differs, and calling it bad.
-ghost use Rattle.std.specs.Prelude.{◌≡◌, false, slice_index_or};
+ghost use Rattle.std.specs.Prelude.{◌≡◌, ◌<◌, false, slice_index_or};
 ghost use Rattle.voter.specs.Counts.{Each, bad_of, noted, seen, seen_of, unseen};
+ghost use Rattle.voter.specs.Sizes.{sensors};
 
 use crate::reading::SENSORS;
 use crate::watch::{Alarms, Watch};
+use std::array;
 
 /// At how many beats in a row at which it differs a sensor is called bad.
 pub const PERSISTENCE: u8 = 40;
 
-impl Watch {
+impl Default for Watch {
+    ghost is_default = { λ w. seen w ≡ unseen };
+
     /// A sensor of which nothing is known yet.
-    fn new() -> Watch
-        ensures { seen result ≡ unseen }
-    {
+    fn default() -> Self {
         Watch {
             count: 0,
             bad: false,
         }
     }
+}
 
+impl Watch {
     /// One beat more.
     fn note(self, differs: bool) -> Watch
         ensures { seen result ≡ noted differs (seen self) }
     {
-        let count = if !differs {
-            0
-        } else if self.count < PERSISTENCE {
-            self.count + 1
+        let count = if differs {
+            PERSISTENCE.min(self.count + 1)
         } else {
-            PERSISTENCE
+            0
         };
         Watch {
             count,
             bad: self.bad || count == PERSISTENCE,
         }
+    }
+}
+
+impl Default for Alarms {
+    ghost is_default = { λ a. Each (λ c. seen_of a c ≡ unseen) };
+
+    fn default() -> Self {
+        Self::new()
     }
 }
 
@@ -43,7 +53,7 @@ impl Alarms {
         ensures { Each (λ c. seen_of result c ≡ unseen) }
     {
         Alarms {
-            watches: [Watch::new(); SENSORS],
+            watches: [Watch::default(); SENSORS],
         }
     }
 
@@ -58,13 +68,12 @@ impl Alarms {
     pub fn note(self, differing: [bool; SENSORS]) -> Alarms
         ensures { Each (λ c. seen_of result c ≡ noted (slice_index_or differing c false) (seen_of self c)) }
     {
-        let [a, b, c] = self.watches;
         Alarms {
-            watches: [
-                a.note(differing[0]),
-                b.note(differing[1]),
-                c.note(differing[2]),
-            ],
+            watches: array::from_fn(
+                |c|
+                    requires { c < sensors }
+                { self.watches[c].note(differing[c]) },
+            ),
         }
     }
 
@@ -72,7 +81,6 @@ impl Alarms {
     pub fn bad(self) -> [bool; SENSORS]
         ensures { result ≡ bad_of self }
     {
-        let [a, b, c] = self.watches;
-        [a.bad, b.bad, c.bad]
+        self.watches.map(|watch| watch.bad)
     }
 }

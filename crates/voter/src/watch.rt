@@ -5,7 +5,7 @@ ghost use Rattle.voter.specs.Sizes.{persistence, sensors};
 use crate::reading::SENSORS;
 
 /// For how many beats in a row a sensor has differed from the middle, and whether it was called bad.
-#[derive(Clone, Copy)]
+#[derive(Clone, Copy, Debug, PartialEq, Eq)]
 pub struct Watch {
     pub count: u8,
     pub bad: bool,
@@ -13,7 +13,7 @@ pub struct Watch {
 }
 
 /// A watch for each sensor.
-#[derive(Clone, Copy)]
+#[derive(Clone, Copy, Debug, PartialEq, Eq)]
 pub struct Alarms {
     pub watches: [Watch; SENSORS],
     ghost sized: { length watches ≡ sensors },

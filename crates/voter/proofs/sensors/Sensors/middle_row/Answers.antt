@@ -1,29 +1,28 @@
-use Rattle.std.proofs.Common.{◌≡◌, ℕ, ℤ, pos, arith, length-set, rules}
-use Rattle.linear.proofs.Filling.{filled_more}
+use Rattle.std.proofs.Common.{rules}
 use Rattle.linear.specs.Tables.{at}
-use Rattle.linear.specs.Vectors.{filled}
-use Rattle.voter.specs.Middles.{Middle}
 use Rattle.voter.specs.Sent.{sent}
 use Rattle.voter.specs.Votes.{mids, noise_of}
 use Rattle.voter.proofs.Faulty.{close, two_true}
-use Rattle.voter.proofs.Outsides.{middle_taken}
+use Rattle.voter.proofs.Made.{filled_made}
+use Rattle.voter.proofs.Outsides.{middle_inside, middle_taken}
 use Rattle.voter.proofs.Voting.{filled_middle}
 use Rattle.voter.proofs.sensors.Sensors.middle_row.Goals as goal
 
-pub loop-i-preserved : goal.loop-i-preserved
-loop-i-preserved c = (
-  simp length-set c.loop-i.invariant.0,
-  filled_more (λ (z : ℤ). z) (pos 0) c.loop-i.cells c.loop-i.i (mids (sent c.args.readings.now)) _ (omega arith) (search rules) c.loop-i.invariant.1,
-)
+pub invariant_of-result : goal.invariant_of-result
+invariant_of-result c =
+    let s = c.args.self.now in
+    let ys = sent c.args.readings.now in
+    let made = c.from_fn.ensures.items in
+    let value = filled_made _ _ c.from_fn.result s.n (mids ys) s.sized (λ i y q k. search rules) made in
+    record { sized = made.long; within = middle_inside s.n ys c.requires (at c.from_fn.result) value }
 
 pub returns : goal.returns
 returns c =
     let s = c.args.self.now in
     let ys = sent c.args.readings.now in
-    let y = at c.loop-i.cells in
-    let all : c.loop-i.i ≡ s.n = omega arith in
-    let value : (i : ℕ) → y i ≡ filled s.n (mids ys) i = rw (← all) c.loop-i.invariant.1 in
-    let mid : Middle s.n ys y = filled_middle s.n ys y value in
+    let y = at c.from_fn.result in
+    let value = filled_made _ _ c.from_fn.result s.n (mids ys) s.sized (λ i y q k. search rules) c.from_fn.ensures.items in
+    let mid = filled_middle s.n ys y value in
     record {
       inside = c.requires;
       value = value;
