@@ -1,7 +1,6 @@
 pub mod Alarming
 pub mod Anys
 pub mod Faulty
-pub mod Made
 pub mod Outsides
 pub mod Persisting
 pub mod Same
