@@ -9,7 +9,7 @@ use linear::row::{RANGE, Row};
 use linear::sums::dot;
 
 /// What the loop does: a torque in whole numbers.
-#[derive(Clone, Copy)]
+#[derive(Clone, Copy, Debug, PartialEq, Eq)]
 pub struct Command(pub i32);
 
 impl Law {
@@ -40,6 +40,7 @@ fn nearest(size: u64, den: u32) -> u64
     let den = u64::from(den);
     let quotient = size / den;
     let twice = size % den * 2;
+    // A `match` on `twice.cmp(&den)` makes the whole beat slower by a twentieth.
     if twice < den {
         quotient
     } else if den < twice {

@@ -4,7 +4,7 @@ ghost use Rattle.std.specs.Prelude.{◌≤◌};
 use linear::row::Row;
 
 /// What the loop answers to readings `y`: the whole number nearest to `-k y / over_law`.
-#[derive(Clone, Copy)]
+#[derive(Clone, Copy, Debug, PartialEq, Eq)]
 pub struct Law {
     pub over_law: u32,
     pub k: Row<2_000>,

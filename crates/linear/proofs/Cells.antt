@@ -1,10 +1,8 @@
 -- Cells that a loop writes one by one, and tables with equal cells.
-use Rattle.std.proofs.Common.{◌≡◌, ℕ, zero, suc, ◌+◌, ◌^◌, ◌<◌, ◌≤◌, min, ◌≢◌, List, [], ◌∷◌, length, set, replicate, ℤ, pos, nat_abs, sym, ap, ◌∙◌, inl, inr, arith, get_or-set_other, get_or-set_same, w32, w64, SFits, to_z, of_z, below_more}
+use Rattle.std.proofs.Common.{◌≡◌, ℕ, zero, suc, ◌+◌, ◌^◌, ◌<◌, ◌≤◌, ◌≢◌, List, [], ◌∷◌, length, set, replicate, ℤ, pos, nat_abs, arith, get_or-set_other, get_or-set_same, w32, w64, SFits, to_z, of_z, below_more}
 use mathlib.Core.HLevel.{is_prop→PathP}
 use denote.Struct.Props.{props}
 use borrow.Author.Differences.{ints}
-use Rattle.std.proofs.lemmas.List.{get_or_past}
-use Rattle.std.proofs.lemmas.Bool.{cases_lt}
 use Rattle.linear.specs.Tables.{at, Within}
 use Rattle.linear.specs.declared.table.Table.{Table}
 
@@ -28,14 +26,6 @@ entries_more f xs i l h =
 -- a number that is small enough for 32 bits, cast to them
 pub narrowed : (a z : ℤ) (b : ℕ) → SFits w64 a → a ≡ z → nat_abs z ≤ b → b < 2 ^ 31 → to_z w32 (of_z w32 (to_z w64 (of_z w64 a))) ≡ z
 narrowed a z b f e h l = omega (arith, ints)
-
--- two indices that are the same, or both past the last cell
-pub capped : (xs : List ℤ) (i m top : ℕ) → length xs ≤ top → min i top ≡ min m top → at xs i ≡ at xs m
-capped xs i m top l e =
-    elim (cases_lt m top) [
-      | inl p ↦ ap (at xs) (omega arith)
-      | inr p ↦ get_or_past xs i (pos 0) (omega arith) ∙ sym (get_or_past xs m (pos 0) (omega arith))
-    ]
 
 -- tables with equal cells are equal, whatever shows their bounds
 pub same_table : (l b : ℕ) (x y : Table l b) → x.cells ≡ y.cells → x ≡ y

@@ -1,6 +1,5 @@
 -- What the contracts cite.
 pub mod Laws
-pub mod Lines
 pub mod Ranges
 pub mod Rows
 pub mod Tables

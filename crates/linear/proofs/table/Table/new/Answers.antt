@@ -1,28 +1,31 @@
--- The cells below i are the numbers below i, cast to 32 bits.
-use Rattle.std.proofs.Common.{◌≡◌, ◌<◌, ◌≤◌, length, pos, nat_abs, refl, ◌∙◌, arith, length-set, ext_get_or, w64, SFits, rules, below_none, below_more}
+-- No number is outside, so each is cast as it is.
+use Rattle.std.proofs.Common.{rules, ◌≡◌, ◌<◌, ◌≤◌, length, pos, nat_abs, arith, inl, inr, ext_get_or}
+use borrow.Author.Tests.{tests}
 use borrow.Author.Differences.{ints}
-use lib.ListN.{length-replicate}
-use Rattle.linear.specs.Tables.{at}
-use Rattle.linear.proofs.Cells.{zeros_within, set_within, entries_more, narrowed}
+use Rattle.std.proofs.lemmas.Bool.{cases_lt}
+use Rattle.std.proofs.lemmas.List.{get_or_past}
+use Rattle.std.proofs.lemmas.Iterator.{IsFirst-from_position, YieldsList-from_slice}
+use Rattle.linear.specs.Tables.{at, Within}
+use Rattle.linear.proofs.Made.{made}
+use Rattle.linear.proofs.table.Table.new.Given.{Over}
 use Rattle.linear.proofs.table.Table.new.Goals as goal
+use Rattle.linear.proofs.table.Table.new.Goals.{After-from_fn}
 
-pub loop-i-init : goal.loop-i-init
-loop-i-init g c = (length-replicate _ _, zeros_within _ _, below_none _, below_none _)
+same : (g : Over) (c : After-from_fn g) → c.from_fn.result ≡ c.args.numbers
+same g c =
+    ext_get_or (pos 0) _ _ (omega (arith, c.from_fn.ensures.items.long))
+    (λ k h. made (λ j y. y ≡ at c.args.numbers j) _ _ g.row.LEN c.from_fn.ensures.items (λ j y q l e. search rules) k (omega (arith, c.from_fn.ensures.items.long)) (pos 0))
 
-pub loop-i-preserved : goal.loop-i-preserved
-loop-i-preserved g c =
-    let x = at c.args.numbers c.loop-i.i in
-    let f : SFits w64 x = search rules in
-    let small : nat_abs x ≤ g.row.BOUND = omega (arith, ints) in
-    let here : c.loop-i.i < length c.loop-i.cells = omega arith in
-    simp (narrowed x x g.row.BOUND f refl small c.requires) (
-      length-set _ _ _ ∙ c.loop-i.invariant.0,
-      set_within _ _ _ _ c.loop-i.invariant.1 small,
-      entries_more (at c.args.numbers) _ _ here c.loop-i.invariant.2,
-      below_more _ _ c.loop-i.invariant.3 small,
-    )
+small : (g : Over) (c : After-from_fn g) → Within g.row.BOUND c.args.numbers
+small g c k =
+    let none = rw c.in-None.is at (IsFirst-from_position _ _ c.position.result (λ x. g.row.BOUND < nat_abs x) (λ x. nat_abs x ≤ g.row.BOUND) c.position.ensures.ran (YieldsList-from_slice c.args.numbers c.iter.ensures.rest) (λ x q e. search (rules, tests)) (λ x q e. search (rules, tests))) in
+    elim (cases_lt k (length c.args.numbers)) [
+      | inl l ↦ none k (pos 0) (omega arith) l
+      | inr l ↦ let past = get_or_past c.args.numbers k (pos 0) l in omega (arith, ints)
+    ]
 
-pub returns : goal.returns
-returns g c =
-    let same : length c.loop-i.cells ≡ length c.args.numbers = omega arith in
-    ext_get_or (pos 0) _ _ same (λ k h. c.loop-i.invariant.2 k (omega arith))
+pub invariant_of-result : goal.invariant_of-result
+invariant_of-result g c = record { sized = c.from_fn.ensures.items.long; within = rw (same g c) (small g c) }
+
+pub returns-in-None : goal.returns-in-None
+returns-in-None g c = same g (goal.at.returns-in-None g c).After-from_fn
