@@ -1,61 +1,61 @@
-//! What the programs have in common: each is called with the paths of three documents, and reads them first.
+//! What the programs have in common: each is called with the paths of three documents, reads them first, and ends with
+//! what it was for or with a failure.
 //!
 //! No contract can speak of arguments and files, so what reads them promises nothing; `tests/cli.sh` holds it to what it
 //! should do.
 #![tactic(auto)]
 
-ghost use Rattle.std.specs.Prelude.{◌≡◌};
+ghost use Rattle.std.specs.Prelude.{◌≡◌, IsOk, IsErr};
 ghost use Rattle.std.specs.Process.{exit_status};
 
+use std::alloc::AllocError;
 use std::fmt::Display;
 use std::process::ExitCode;
-use std::{env, fs};
+use std::{env, fs, io};
+use thiserror::Error;
 
-/// The bytes of three documents, in the order of the call.
-#[derive(Drop)]
-pub struct Documents {
-    pub first: Vec<u8>,
-    pub second: Vec<u8>,
-    pub third: Vec<u8>,
+/// Why a program ends without what it was for. `R` is why it refuses a document.
+#[derive(Debug, Drop, Error)]
+#[error_bound(R: Display)]
+pub enum Failure<R> {
+    /// It was not called with three paths.
+    #[error("usage: {program} {names}")]
+    Usage {
+        program: &'static str,
+        names: &'static str,
+    },
+    #[error("{program}: {path}: {error}")]
+    Unreadable {
+        program: &'static str,
+        path: String,
+        error: io::Error,
+    },
+    #[error("{0}")]
+    Refused(R),
+    /// The arguments cannot be had, or the lines not printed.
+    #[error("Error: {0}")]
+    Io(#[from] io::Error),
+    #[error("Error: {0}")]
+    Memory(#[from(alloc)] AllocError),
 }
 
-/// The bytes of the file, or `None` once a line has named it.
-fn read(rt: &HostRuntime, program: &str, path: &str) -> anyhow::Result<Option<Vec<u8>>> {
-    match fs::read(rt, path) {
-        Ok(bytes) => Ok(Some(bytes)),
-        Err(error) => {
-            eprintln!(rt; "{program}: {path}: {error}")?;
-            Ok(None)
-        }
-    }
-}
-
-/// The documents that the program was called with. A wrong call and a file that cannot be read are one line on standard
-/// error, and `None`.
-pub fn read_documents(
+/// The bytes of the three documents that the program was called with, in the order of the call.
+pub fn read_documents<R>(
     rt: &HostRuntime,
-    program: &str,
-    names: &str,
-) -> anyhow::Result<Option<Documents>> {
-    let args: Vec<String> = env::args(rt)?.collect(rt.alloc())?;
-    if args.len() != 4 {
-        eprintln!(rt; "usage: {program} {names}")?;
-        return Ok(None);
-    }
-    let Some(first) = read(rt, program, args[1].as_str())? else {
-        return Ok(None);
+    program: &'static str,
+    names: &'static str,
+) -> Result<[Vec<u8>; 3], Failure<R>> {
+    let args: Vec<String> = env::args(rt)?.skip(1).collect(rt.alloc())?;
+    let Ok(paths) = <[String; 3]>::try_from(args) else {
+        return Err(Failure::Usage { program, names });
     };
-    let Some(second) = read(rt, program, args[2].as_str())? else {
-        return Ok(None);
-    };
-    let Some(third) = read(rt, program, args[3].as_str())? else {
-        return Ok(None);
-    };
-    Ok(Some(Documents {
-        first,
-        second,
-        third,
-    }))
+    paths.try_map(|path| {
+        fs::read(rt, &path).map_err(|error| Failure::Unreadable {
+            program,
+            path,
+            error,
+        })
+    })
 }
 
 /// The line of a refusal, and the status to end with, whether the line could be printed or not.
@@ -64,4 +64,20 @@ pub fn refuse(rt: &HostRuntime, refusal: impl Display + Drop) -> ExitCode
 {
     let _ = println!(rt; "{refusal}");
     ExitCode::FAILURE
+}
+
+/// The status to end with, once a failure's line is printed, if it can be: a refusal's on standard output, any other's on
+/// standard error.
+pub fn end<R: Display + Drop>(rt: &HostRuntime, ended: Result<(), Failure<R>>) -> ExitCode
+    ensures ok { IsOk ended → exit_status result ≡ 0 }
+    ensures err { IsErr ended → exit_status result ≡ 1 }
+{
+    match ended {
+        Ok(()) => ExitCode::SUCCESS,
+        Err(Failure::Refused(refusal)) => refuse(rt, refusal),
+        Err(failure) => {
+            let _ = eprintln!(rt; "{failure}");
+            ExitCode::FAILURE
+        }
+    }
 }

@@ -6,7 +6,7 @@ use law::Command;
 use voter::SENSORS;
 
 /// What a beat comes to.
-#[derive(Clone, Copy)]
+#[derive(Clone, Copy, Debug, PartialEq, Eq)]
 pub enum Outcome {
     /// What is done, and which sensors are called bad.
     Answered {

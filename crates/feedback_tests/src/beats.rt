@@ -1,5 +1,5 @@
 //! One beat of the worked head.
-use crate::expect::{counts, prints};
+use crate::expect::{counts, noted, prints};
 use crate::head;
 use crate::head::{LEAST, MOST, sent};
 use feedback::beat::beat;
@@ -50,10 +50,7 @@ const EDGES: [(i32, i32, &str, &str); 2] = [
 
 // For each sensor the one or the other.
 fn either(past: [bool; 3], inside: i32, outside: i32) -> [i32; 3] {
-    let first = if past[0] { outside } else { inside };
-    let second = if past[1] { outside } else { inside };
-    let third = if past[2] { outside } else { inside };
-    [first, second, third]
+    past.map(|past| if past { outside } else { inside })
 }
 
 // That these readings come to this, as those of the first number and as those of the second.
@@ -157,15 +154,6 @@ fn a_sensor_too_far_from_the_middle_is_counted(rt: HostRuntime) -> Result<(), Fa
     Ok(())
 }
 
-// Alarms at which these sensors have differed for so many beats.
-fn after(beats: u32, differing: [bool; 3]) -> Alarms {
-    let mut alarms = Alarms::new();
-    for _ in 0..beats {
-        alarms = alarms.note(differing);
-    }
-    alarms
-}
-
 const BAD: [([bool; 3], &str); 4] = [
     ([true, false, false], "-20 bad 0"),
     ([false, true, false], "-20 bad 1"),
@@ -187,8 +175,9 @@ fn a_bad_sensor_still_stands_among_the_three(rt: HostRuntime) -> Result<(), Fail
     let heap = rt.alloc();
     let design = head::design(heap)?;
     for (differing, line) in BAD {
+        let alarms = noted(Alarms::new(), 40, differing);
         for first in ORDERS {
-            let (outcome, _) = beat(&design, after(40, differing), &sent(first, [0; 3]));
+            let (outcome, _) = beat(&design, alarms, &sent(first, [0; 3]));
             prints(&rt, heap, outcome, line)?;
         }
     }
@@ -208,7 +197,7 @@ const STEPS: [([i32; 3], &str, [u8; 3], bool); 5] = [
 fn a_refused_beat_leaves_the_alarms_as_they_were(rt: HostRuntime) -> Result<(), Fail> {
     let heap = rt.alloc();
     let design = head::design(heap)?;
-    let mut alarms = after(39, [true, false, false]);
+    let mut alarms = noted(Alarms::new(), 39, [true, false, false]);
     for (first, line, expected, bad) in STEPS {
         let (outcome, next) = beat(&design, alarms, &sent(first, [0; 3]));
         alarms = next;

@@ -2,6 +2,7 @@
 use format::design::Design;
 use format::recording::read_recording;
 use std::alloc::{AllocError, Global};
+use std::array;
 use std::test::*;
 use voter::{Reading, Readings};
 
@@ -46,12 +47,10 @@ pub(crate) fn recorded(heap: Global, groups: &[[i16; 3]]) -> Result<Vec<u8>, All
 
 /// The design as a value: only reading makes one.
 pub(crate) fn design(heap: Global) -> Result<Design, Fail> {
-    let design = design_bytes(heap)?;
-    let set = set_bytes(heap)?;
-    match read_recording(design.as_slice(), set.as_slice(), &[]) {
-        Ok(recording) => Ok(recording.design),
-        Err(_) => Err(Fail::new("the head is refused")),
-    }
+    let Ok(recording) = read_recording(&design_bytes(heap)?, &set_bytes(heap)?, &[]) else {
+        return Err(Fail::new("the head is refused"));
+    };
+    Ok(recording.design)
 }
 
 // The head has two numbers, and what stands past them is not looked at: so it is something outside.
@@ -62,9 +61,5 @@ fn row(first: i32, second: i32) -> [Reading; 6] {
 
 /// What three sensors sent of the first number, and of the second.
 pub(crate) fn sent(first: [i32; 3], second: [i32; 3]) -> Readings {
-    [
-        row(first[0], second[0]),
-        row(first[1], second[1]),
-        row(first[2], second[2]),
-    ]
+    array::from_fn(|c| row(first[c], second[c]))
 }

@@ -1,6 +1,7 @@
 //! The line that an outcome prints, and a refusal's number and place.
 use crate::expect::prints;
 use feedback::outcome::Outcome;
+use format::report::Report;
 use law::Command;
 use std::test::*;
 
@@ -35,7 +36,7 @@ fn an_answer_stands_before_the_sensors_called_bad(rt: HostRuntime) -> Result<(),
 }
 
 // No beat comes to the last ones, but they are outcomes too, and their places do not wrap.
-const REFUSALS: [(u8, u8, u16, &str); 7] = [
+const REFUSALS: [(u8, u8, usize, &str); 7] = [
     (0, 0, 0, "refused 9 at 0"),
     (0, 5, 5, "refused 9 at 5"),
     (1, 0, 8, "refused 9 at 8"),
@@ -50,7 +51,7 @@ fn a_refusal_has_its_number_and_its_place(rt: HostRuntime) -> Result<(), Fail> {
     for (sensor, number, place, line) in REFUSALS {
         let outcome = Outcome::Outside { sensor, number };
         prints(&rt, rt.alloc(), outcome, line)?;
-        assert_eq!(rt; outcome.refusal(), Some((9, place)));
+        assert_eq!(rt; outcome.refusal(), Some(Report { number: 9, place }));
     }
     Ok(())
 }

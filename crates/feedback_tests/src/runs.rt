@@ -1,5 +1,5 @@
 //! A recording that is run into slices of outcomes that are shorter than it, as long, and longer.
-use crate::expect::{BEFORE, BEFORE_LINE, prints, untouched};
+use crate::expect::{BEFORE, prints, untouched};
 use crate::head::{design_bytes, recorded, set_bytes};
 use feedback::outcome::Outcome;
 use feedback::run::run;
@@ -8,12 +8,10 @@ use std::test::*;
 
 // How many beats of the worked head are run.
 fn ran(heap: Global, readings: &[u8], out: &mut [Outcome]) -> Result<usize, Fail> {
-    let design = design_bytes(heap)?;
-    let set = set_bytes(heap)?;
-    match run(design.as_slice(), set.as_slice(), readings, out) {
-        Ok(count) => Ok(count),
-        Err(_) => Err(Fail::new("the head is refused")),
-    }
+    let Ok(count) = run(&design_bytes(heap)?, &set_bytes(heap)?, readings, out) else {
+        return Err(Fail::new("the head is refused"));
+    };
+    Ok(count)
 }
 
 // Five beats of two numbers, and what each prints.
@@ -38,16 +36,13 @@ fn as_many_beats_are_run_as_there_is_room_for(rt: HostRuntime) -> Result<(), Fai
     let readings = recorded(heap, &SENT)?;
     for room in 0..8usize {
         let mut out = [BEFORE; 7];
-        let count = ran(heap, readings.as_slice(), &mut out[0..room])?;
+        let count = ran(heap, &readings, &mut out[..room])?;
         assert_eq!(rt; count, room.min(5));
-        for i in 0..7usize {
-            let line = if i < room && i < 5 {
-                LINES[i]
-            } else {
-                BEFORE_LINE
-            };
-            prints(&rt, heap, out[i], line)?;
+        let (written, rest) = out.split_at(count);
+        for (outcome, line) in written.iter().zip(LINES) {
+            prints(&rt, heap, *outcome, line)?;
         }
+        untouched(&rt, rest)?;
     }
     Ok(())
 }
@@ -56,7 +51,7 @@ fn as_many_beats_are_run_as_there_is_room_for(rt: HostRuntime) -> Result<(), Fai
 fn no_beats_write_nothing(rt: HostRuntime) -> Result<(), Fail> {
     let mut out = [BEFORE; 3];
     assert_eq!(rt; ran(rt.alloc(), &[], &mut out)?, 0);
-    untouched(&rt, rt.alloc(), &out)?;
+    untouched(&rt, &out)?;
     assert_eq!(rt; ran(rt.alloc(), &[], &mut [])?, 0);
     Ok(())
 }
@@ -70,11 +65,11 @@ fn each_run_begins_with_new_alarms(rt: HostRuntime) -> Result<(), Fail> {
     let mut readings = Vec::new(heap);
     for b in 0..42 {
         let beat = if b == 20 { &refused } else { &far };
-        readings.extend_from_slice(beat.as_slice())?;
+        readings.extend_from_slice(beat)?;
     }
     for _ in 0..2 {
         let mut out = [BEFORE; 42];
-        assert_eq!(rt; ran(heap, readings.as_slice(), &mut out)?, 42);
+        assert_eq!(rt; ran(heap, &readings, &mut out)?, 42);
         prints(&rt, heap, out[0], "0")?;
         prints(&rt, heap, out[20], "refused 9 at 9")?;
         prints(&rt, heap, out[39], "0")?;

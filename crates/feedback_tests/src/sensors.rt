@@ -18,13 +18,11 @@ fn sensors(heap: Global) -> Result<Sensors, Fail> {
 #[test]
 fn the_middle_row_ends_with_zeros(rt: HostRuntime) -> Result<(), Fail> {
     let readings = sent([-3, 8, LEAST], [90, 2, -40]);
-    match sensors(rt.alloc())?.middle(&readings) {
-        Ok(row) => {
-            assert_eq!(rt; row.cells, [-3, 2, 0, 0, 0, 0]);
-            Ok(())
-        },
-        Err(_) => Err(Fail::new("one sensor outside is refused")),
-    }
+    let Ok(row) = sensors(rt.alloc())?.middle(&readings) else {
+        return Err(Fail::new("one sensor outside is refused"));
+    };
+    assert_eq!(rt; row.cells, [-3, 2, 0, 0, 0, 0]);
+    Ok(())
 }
 
 // A row, what the sensors sent of both numbers, and which sensors differ. Past the numbers of the state the row is not

@@ -9,7 +9,7 @@ use linear::table::Table;
 
 /// A sheet's numbers, multipliers of the faces over a common `scale` (a Farkas certificate): `m` has a row for each face,
 /// `w` one for each sign of the law, `v` one for each number of the state and sign. Rows are `FACES` entries apart.
-#[derive(Clone, Copy)]
+#[derive(Clone, Copy, Debug, PartialEq, Eq)]
 pub struct Certificate {
     pub n: usize,
     pub count: usize,

@@ -7,7 +7,7 @@ use crate::faces::Faces;
 
 /// The claim that the loop of `design` never leaves the set of `faces`, as `certificate` is to show. The three have one
 /// size of the state and one count of faces.
-#[derive(Clone, Copy)]
+#[derive(Clone, Copy, Debug, PartialEq, Eq)]
 pub struct Claim {
     pub design: Design,
     pub faces: Faces,

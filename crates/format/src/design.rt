@@ -10,7 +10,7 @@ use linear::table::Table;
 
 /// What the state does: `over` times the next state is `a x + b u`, and off by at most `off`. Row `i` of `a` begins at
 /// entry `NUMBERS * i`.
-#[derive(Clone, Copy)]
+#[derive(Clone, Copy, Debug, PartialEq, Eq)]
 pub struct Plant {
     pub over: u32,
     pub a: Table<NUMBERS_BY_NUMBERS, 2_000>,
@@ -20,7 +20,7 @@ pub struct Plant {
 }
 
 /// A plant and a law with `n` numbers for the state, the largest answer `limit`, and how far a true reading may be off.
-#[derive(Clone, Copy)]
+#[derive(Clone, Copy, Debug, PartialEq, Eq)]
 pub struct Design {
     pub n: usize,
     pub limit: u32,

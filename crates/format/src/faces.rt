@@ -9,7 +9,7 @@ use linear::table::Table;
 
 /// The states `x` of `n` numbers with `h x` at most the top, for each of `count` faces (half-spaces, a top is the offset).
 /// The row of face `f` begins at entry `NUMBERS * f` of `h`.
-#[derive(Clone, Copy)]
+#[derive(Clone, Copy, Debug, PartialEq, Eq)]
 pub struct Faces {
     pub n: usize,
     pub count: usize,

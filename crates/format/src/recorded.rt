@@ -6,7 +6,7 @@ use crate::faces::Faces;
 
 /// A recording of `beats` beats of the loop of `design`, and the set that it is to stay in. The two have one size of the
 /// state.
-#[derive(Clone, Copy)]
+#[derive(Clone, Copy, Debug, PartialEq, Eq)]
 pub struct Recording {
     pub design: Design,
     pub faces: Faces,

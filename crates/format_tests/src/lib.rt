@@ -6,6 +6,7 @@ mod tests {
     use format::read::read_claim;
     use format::recording::{Fault, read_recording, readings_of};
     use format::refusal::{Document, Refusal};
+    use format::report::Report;
     use format::write::write;
     use std::alloc::{AllocError, Global};
     use std::test::Fail;
@@ -64,24 +65,19 @@ mod tests {
         let design = head_design(heap)?;
         let set = rows(heap, 4, &FACES)?;
         let sheet = rows(heap, 1, &MULTIPLIERS)?;
-        match read_claim(design.as_slice(), set.as_slice(), sheet.as_slice()) {
-            Ok(claim) => {
-                assert_eq!(rt; claim.design.n, 2);
-                assert_eq!(rt; claim.design.plant.a.entry(7), 95);
-                assert_eq!(rt; claim.faces.h.entry(6), -1);
-                assert_eq!(rt; claim.faces.tops.entry(3), 8);
-                assert_eq!(rt; claim.certificate.m.entry(24 * 3 + 3), 120);
-                assert_eq!(rt; claim.certificate.w.entry(24 + 3), 7);
-                assert!(rt; write(&claim.design, heap)? == design);
-                assert!(rt; write(&claim.faces, heap)? == set);
-                assert!(rt; write(&claim.certificate, heap)? == sheet);
-                Ok(())
-            }
-            Err(_) => {
-                assert!(rt; false);
-                Ok(())
-            },
-        }
+        let Ok(claim) = read_claim(&design, &set, &sheet) else {
+            return Err(Fail::new("the head is refused"));
+        };
+        assert_eq!(rt; claim.design.n, 2);
+        assert_eq!(rt; claim.design.plant.a.entry(7), 95);
+        assert_eq!(rt; claim.faces.h.entry(6), -1);
+        assert_eq!(rt; claim.faces.tops.entry(3), 8);
+        assert_eq!(rt; claim.certificate.m.entry(24 * 3 + 3), 120);
+        assert_eq!(rt; claim.certificate.w.entry(24 + 3), 7);
+        assert_eq!(rt; write(&claim.design, heap)?, design);
+        assert_eq!(rt; write(&claim.faces, heap)?, set);
+        assert_eq!(rt; write(&claim.certificate, heap)?, sheet);
+        Ok(())
     }
 
     #[test]
@@ -90,21 +86,12 @@ mod tests {
         let mut design = Vec::new(heap);
         add(&mut design, &[7])?;
         let set = rows(heap, 4, &FACES)?;
-        match read_claim(design.as_slice(), set.as_slice(), &[1, 2, 3]) {
-            Err(
-                Refusal::Length {
-                    document: Document::Sheet,
-                    place,
-                },
-            ) => {
-                assert_eq!(rt; place, 3);
-                Ok(())
-            },
-            _ => {
-                assert!(rt; false);
-                Ok(())
-            },
-        }
+        let refusal = Refusal::Length {
+            document: Document::Sheet,
+            place: 3,
+        };
+        assert_eq!(rt; read_claim(&design, &set, &[1, 2, 3]), Err(refusal));
+        Ok(())
     }
 
     // Two beats of two numbers: of each, what three sensors sent.
@@ -128,32 +115,28 @@ mod tests {
         let design = head_design(heap)?;
         let set = rows(heap, 4, &FACES)?;
         let bytes = recorded(heap, 0)?;
-        match read_recording(design.as_slice(), set.as_slice(), bytes.as_slice()) {
-            Ok(recording) => {
-                assert_eq!(rt; recording.design.n, 2);
-                assert_eq!(rt; recording.faces.count, 4);
-                assert_eq!(rt; recording.beats, 2);
-                Ok(())
-            }
-            Err(_) => Err(Fail::new("the head is refused")),
-        }
+        let Ok(recording) = read_recording(&design, &set, &bytes) else {
+            return Err(Fail::new("the head is refused"));
+        };
+        assert_eq!(rt; recording.design.n, 2);
+        assert_eq!(rt; recording.faces.count, 4);
+        assert_eq!(rt; recording.beats, 2);
+        Ok(())
     }
 
     #[test]
     fn the_readings_of_a_beat_are_those_sent(rt: HostRuntime) -> Result<(), Fail> {
         let bytes = recorded(rt.alloc(), 0)?;
-        let first = readings_of(2, bytes.as_slice());
+        let first = readings_of(2, &bytes);
         assert_eq!(rt; first[2][0].0, 3);
         assert_eq!(rt; first[1][1].0, -32_768);
         assert_eq!(rt; first[2][1].0, 32_767);
         assert_eq!(rt; first[0][2].0, 0);
-        match bytes.as_slice().get(18..) {
-            Some(rest) => {
-                assert_eq!(rt; readings_of(2, rest)[1][0].0, 512);
-                Ok(())
-            },
-            None => Err(Fail::new("there is no second beat")),
-        }
+        let Some(rest) = bytes.get(18..) else {
+            return Err(Fail::new("there is no second beat"));
+        };
+        assert_eq!(rt; readings_of(2, rest)[1][0].0, 512);
+        Ok(())
     }
 
     #[test]
@@ -163,13 +146,9 @@ mod tests {
         let set = rows(heap, 4, &FACES)?;
         let mut bytes = recorded(heap, 1)?;
         bytes.pop();
-        match read_recording(design.as_slice(), set.as_slice(), bytes.as_slice()) {
-            Err(Fault::Beats { place }) => {
-                assert_eq!(rt; place, 35);
-                Ok(())
-            },
-            _ => Err(Fail::new("another answer")),
-        }
+        let fault = Fault::Beats { place: 35 };
+        assert_eq!(rt; read_recording(&design, &set, &bytes), Err(fault));
+        Ok(())
     }
 
     #[test]
@@ -178,14 +157,15 @@ mod tests {
         let design = head_design(heap)?;
         let set = rows(heap, 1, &[[101, 0, 21]])?;
         let bytes = recorded(heap, 1)?;
-        match read_recording(design.as_slice(), set.as_slice(), bytes.as_slice()) {
-            Err(refusal) => {
-                assert_eq!(rt; refusal.number(), 1);
-                assert_eq!(rt; refusal.place(), 8);
-                Ok(())
-            }
-            Ok(_) => Err(Fail::new("it is read")),
-        }
+        let Err(fault) = read_recording(&design, &set, &bytes) else {
+            return Err(Fail::new("it is read"));
+        };
+        let report = Report {
+            number: 1,
+            place: 8,
+        };
+        assert_eq!(rt; fault.report(), report);
+        Ok(())
     }
 
     #[test]
@@ -196,19 +176,11 @@ mod tests {
         let mut design = Vec::new(heap);
         add(&mut design, &[7])?;
         let set = rows(heap, 4, &FACES)?;
-        match read_recording(design.as_slice(), set.as_slice(), &[1, 2, 3]) {
-            Err(
-                Fault::Documents(
-                    Refusal::Range {
-                        document: Document::Design,
-                        place,
-                    },
-                ),
-            ) => {
-                assert_eq!(rt; place, 0);
-                Ok(())
-            },
-            _ => Err(Fail::new("another answer")),
-        }
+        let fault = Fault::Documents(Refusal::Range {
+            document: Document::Design,
+            place: 0,
+        });
+        assert_eq!(rt; read_recording(&design, &set, &[1, 2, 3]), Err(fault));
+        Ok(())
     }
 }

@@ -1,41 +1,37 @@
 //! `run DESIGN SET READINGS`: runs the loop on recorded readings, and prints a line for each beat.
 #![tactic(auto)]
 
-use cli::{read_documents, refuse};
+use cli::{Failure, end, read_documents};
 use feedback::outcome::Outcome;
 use feedback::run::run;
-use format::recording::read_recording;
+use format::recording::{Fault, read_recording};
+use std::io;
 use std::io::{BufWriter, Write};
 use std::process::ExitCode;
 
 /// A line for each beat.
-fn print(rt: &HostRuntime, outcomes: &[Outcome]) -> anyhow::Result<ExitCode> {
+fn print(rt: &HostRuntime, outcomes: &[Outcome]) -> io::Result<()> {
     let mut out = BufWriter::new(rt.alloc(), rt.stdout())?;
     for outcome in outcomes {
         writeln!(out, "{outcome}")?;
     }
-    out.flush()?;
-    Ok(ExitCode::SUCCESS)
+    out.flush()
 }
 
-fn main(rt: HostRuntime) -> anyhow::Result<ExitCode> {
-    let Some(given) = read_documents(&rt, "run", "DESIGN SET READINGS")? else {
-        return Ok(ExitCode::FAILURE);
-    };
-    let design = given.first.as_slice();
-    let set = given.second.as_slice();
-    let readings = given.third.as_slice();
-    let beats = match read_recording(design, set, readings) {
-        Ok(recording) => recording.beats,
-        Err(refusal) => return Ok(refuse(&rt, refusal)),
-    };
+fn run_recording(rt: &HostRuntime) -> Result<(), Failure<Fault>> {
+    let [design, set, readings] = read_documents(rt, "run", "DESIGN SET READINGS")?;
+    let recording = read_recording(&design, &set, &readings).map_err(Failure::Refused)?;
+    // Room for each beat, which is written over: `run` asks for no memory itself.
     let none = Outcome::Outside {
         sensor: 0,
         number: 0,
     };
-    let mut outcomes = vec![in rt.alloc(); none; beats]?;
-    match run(design, set, readings, outcomes.as_mut_slice()) {
-        Ok(_) => print(&rt, outcomes.as_slice()),
-        Err(refusal) => Ok(refuse(&rt, refusal)),
-    }
+    let mut outcomes = vec![in rt.alloc(); none; recording.beats]?;
+    run(&design, &set, &readings, &mut outcomes).map_err(Failure::Refused)?;
+    print(rt, &outcomes)?;
+    Ok(())
+}
+
+fn main(rt: HostRuntime) -> ExitCode {
+    end(&rt, run_recording(&rt))
 }

@@ -6,7 +6,7 @@ ghost use Rattle.linear.specs.Tables.{at as entry_of};
 use linear::row::Row;
 
 /// How many numbers of the state the sensors read, and by how much a true reading of each may be off.
-#[derive(Clone, Copy)]
+#[derive(Clone, Copy, Debug, PartialEq, Eq)]
 pub struct Sensors {
     pub n: usize,
     pub noise: Row<1_000>,
