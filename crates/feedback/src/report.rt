@@ -57,7 +57,7 @@ impl fmt::Display for Outcome {
 
     fn fmt<W: fmt::Write>(&self, f: &mut fmt::Formatter<W>) -> fmt::Result {
         match *self {
-            Outcome::Answered { command, bad } => write!(f, "{}{}", command.0, called_bad(bad)),
+            Outcome::Answered { command, bad } => write!(f, "{command}{}", called_bad(bad)),
             Outcome::Outside { sensor, number } => outside(sensor, number).fmt(f),
         }
     }

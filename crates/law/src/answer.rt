@@ -1,5 +1,6 @@
 //! The law's answer to readings, exact but for the rounding to a whole number.
-ghost use Rattle.std.specs.Prelude.{◌≡◌, ◌+◌, ◌*◌, ◌/◌, ◌%◌, ◌^◌, ◌<◌, pos, neg_ℤ, ◌≤ℤ◌, ◌<ℤ◌, unsigned_abs};
+ghost use Rattle.std.specs.Prelude.{◌≡◌, ◌+◌, ◌*◌, ◌/◌, ◌%◌, ◌^◌, ◌<◌, pos, neg_ℤ, ◌≤ℤ◌, ◌<ℤ◌, unsigned_abs, Some};
+ghost use Rattle.std.specs.Fmt.{signed_decimal};
 ghost use Rattle.linear.specs.Tables.{at as entry_of};
 ghost use Rattle.linear.specs.Vectors.{dot as dot_of};
 ghost use Rattle.law.specs.Answers.{Answer, Rounded};
@@ -7,10 +8,19 @@ ghost use Rattle.law.specs.Answers.{Answer, Rounded};
 use crate::gain::Law;
 use linear::row::{RANGE, Row};
 use linear::sums::dot;
+use std::fmt;
 
 /// What the loop does: a torque in whole numbers.
 #[derive(Clone, Copy, Debug, PartialEq, Eq)]
 pub struct Command(pub i32);
+
+impl fmt::Display for Command {
+    ghost output = { λ u. Some (signed_decimal u.0) };
+
+    fn fmt<W: fmt::Write>(&self, f: &mut fmt::Formatter<W>) -> fmt::Result {
+        self.0.fmt(f)
+    }
+}
 
 impl Law {
     /// What this law answers to the first `n` numbers of `y`. It is never cut: the largest fits 32 bits.
