@@ -7,12 +7,12 @@ use format::refusal::Refusal;
 use std::process::ExitCode;
 
 fn check(rt: &HostRuntime) -> Result<(), Failure<Refusal>> {
-    let [design, set, sheet] = read_documents(rt, "check", "DESIGN SET SHEET")?;
+    let [design, set, sheet] = read_documents(rt)?;
     let claim = read_claim(&design, &set, &sheet).map_err(Failure::Refused)?;
     println!(rt; "read n {} faces {}", claim.design.n, claim.faces.count)?;
     Ok(())
 }
 
 fn main(rt: HostRuntime) -> ExitCode {
-    end(&rt, check(&rt))
+    end(&rt, "check", "DESIGN SET SHEET", check(&rt))
 }

@@ -18,43 +18,27 @@ use thiserror::Error;
 #[derive(Debug, Drop, Error)]
 #[error_bound(R: Display)]
 pub enum Failure<R> {
-    /// It was not called with three paths.
-    #[error("usage: {program} {names}")]
-    Usage {
-        program: &'static str,
-        names: &'static str,
-    },
-    #[error("{program}: {path}: {error}")]
-    Unreadable {
-        program: &'static str,
-        path: String,
-        error: io::Error,
-    },
+    #[error("not called with three paths")]
+    Usage,
+    #[error("{path}: {error}")]
+    Unreadable { path: String, error: io::Error },
     #[error("{0}")]
     Refused(R),
     /// The arguments cannot be had, or the lines not printed.
-    #[error("Error: {0}")]
+    #[error("{0}")]
     Io(#[from] io::Error),
-    #[error("Error: {0}")]
+    #[error("{0}")]
     Memory(#[from(alloc)] AllocError),
 }
 
 /// The bytes of the three documents that the program was called with, in the order of the call.
-pub fn read_documents<R>(
-    rt: &HostRuntime,
-    program: &'static str,
-    names: &'static str,
-) -> Result<[Vec<u8>; 3], Failure<R>> {
+pub fn read_documents<R>(rt: &HostRuntime) -> Result<[Vec<u8>; 3], Failure<R>> {
     let args: Vec<String> = env::args(rt)?.skip(1).collect(rt.alloc())?;
     let Ok(paths) = <[String; 3]>::try_from(args) else {
-        return Err(Failure::Usage { program, names });
+        return Err(Failure::Usage);
     };
     paths.try_map(|path| {
-        fs::read(rt, &path).map_err(|error| Failure::Unreadable {
-            program,
-            path,
-            error,
-        })
+        fs::read(rt, &path).map_err(|error| Failure::Unreadable { path, error })
     })
 }
 
@@ -68,16 +52,21 @@ pub fn refuse(rt: &HostRuntime, refusal: impl Display + Drop) -> ExitCode
 
 /// The status to end with, once a failure's line is printed, if it can be: a refusal's on standard output, any other's on
 /// standard error.
-pub fn end<R: Display + Drop>(rt: &HostRuntime, ended: Result<(), Failure<R>>) -> ExitCode
+pub fn end<R: Display + Drop>(
+    rt: &HostRuntime,
+    program: &str,
+    documents: &str,
+    ended: Result<(), Failure<R>>,
+) -> ExitCode
     ensures ok { IsOk ended → exit_status result ≡ 0 }
     ensures err { IsErr ended → exit_status result ≡ 1 }
 {
-    match ended {
-        Ok(()) => ExitCode::SUCCESS,
-        Err(Failure::Refused(refusal)) => refuse(rt, refusal),
-        Err(failure) => {
-            let _ = eprintln!(rt; "{failure}");
-            ExitCode::FAILURE
-        }
-    }
+    let _ = match ended {
+        Ok(()) => return ExitCode::SUCCESS,
+        Err(Failure::Refused(refusal)) => return refuse(rt, refusal),
+        Err(Failure::Usage) => eprintln!(rt; "usage: {program} {documents}"),
+        Err(Failure::Unreadable { path, error }) => eprintln!(rt; "{program}: {path}: {error}"),
+        Err(failure) => eprintln!(rt; "Error: {failure}"),
+    };
+    ExitCode::FAILURE
 }

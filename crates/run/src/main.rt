@@ -19,7 +19,7 @@ fn print(rt: &HostRuntime, outcomes: &[Outcome]) -> io::Result<()> {
 }
 
 fn run_recording(rt: &HostRuntime) -> Result<(), Failure<Fault>> {
-    let [design, set, readings] = read_documents(rt, "run", "DESIGN SET READINGS")?;
+    let [design, set, readings] = read_documents(rt)?;
     let recording = read_recording(&design, &set, &readings).map_err(Failure::Refused)?;
     // Room for each beat, which is written over: `run` asks for no memory itself.
     let none = Outcome::Outside {
@@ -33,5 +33,5 @@ fn run_recording(rt: &HostRuntime) -> Result<(), Failure<Fault>> {
 }
 
 fn main(rt: HostRuntime) -> ExitCode {
-    end(&rt, run_recording(&rt))
+    end(&rt, "run", "DESIGN SET READINGS", run_recording(&rt))
 }
