@@ -1,5 +1,4 @@
 use Rattle.std.proofs.Common.{rules}
-use Rattle.std.proofs.lemmas.Grind.{common_steps}
 use Rattle.format.specs.Sizes.{set_count}
 use Rattle.format.proofs.beats.check_form.Goals as goal
 

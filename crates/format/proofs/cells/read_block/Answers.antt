@@ -1,7 +1,5 @@
-use Rattle.std.proofs.Common.{ℕ, ◌<◌, ◌≤◌, length, ℤ, pos, nat_abs, ◌∙◌, arith, length-set, rules}
-use borrow.Author.Differences.{ints}
-use lib.ListN.{length-replicate}
-use Rattle.linear.proofs.Cells.{zeros_within, set_within, entries_more, narrowed}
+use Rattle.std.proofs.Common.{ℕ, ◌<◌, ◌≤◌, length, ℤ, nat_abs, ◌∙◌, arith, length-set, rules}
+use Rattle.linear.proofs.Cells.{set_within, entries_more, narrowed}
 use Rattle.format.specs.Slots.{slot}
 use Rattle.format.proofs.Tables.{slot_small}
 use Rattle.format.proofs.cells.read_block.Goals as goal
