@@ -33,11 +33,6 @@ slot_counted bytes b k room pitch some l =
     ∙ ap (number bytes) (rw (pitch, add_assoc b.base _ (k % b.columns), div-add-mod' k b.columns) refl)
 
 -- each number of a block is one of those that stand between its first and its last
-pub each_of_row : (base count : ℕ) (P : ℕ → Type 0) → Numbers base count P → (i j : ℕ) → i < count → j < 1 → P (base + i * 1 + j)
-each_of_row base count P all i j p q =
-    let here : base + i ≡ base + i * 1 + j = omega arith in
-    subst P here (all i p)
-
 pub each_of_grid : (base rows columns : ℕ) (P : ℕ → Type 0) → Numbers base (rows * columns) P → (i j : ℕ) → i < rows → j < columns → P (base + i * columns + j)
 each_of_grid base rows columns P all i j p q =
     subst P (sym (add_assoc base (i * columns) j)) (all (i * columns + j) (rw (mul_comm rows columns) (mul-add-lt i columns j rows p q)))

@@ -64,16 +64,7 @@ pub(crate) fn read_row<const LEN: usize, const BOUND: u32>(
     ensures blank { Blank 1 count 1 result.cells }
     ensures above { Numbers base count (Above bytes.now) → (s : ℕ) → pos 0 ≤ℤ entry_of result.cells s }
 {
-    read_block(
-        bytes,
-        Block {
-            base,
-            rows: count,
-            columns: 1,
-            pitch: 1,
-            stride: 1,
-        },
-    )
+    read_grid(bytes, base, count, 1, 1)
 }
 
 /// The table of `rows` rows of `columns` numbers from number `base` on, its rows `stride` apart.

@@ -11,7 +11,7 @@ use crate::certificate::Certificate;
 use crate::design::{Design, Law, Plant};
 use crate::faces::Faces;
 use crate::number::natural_at;
-use crate::sizes::{FACES, FACES_BY_NUMBERS, NUMBERS};
+use crate::sizes::{DesignParts, FACES, FACES_BY_NUMBERS, NUMBERS};
 use crate::sound::{SoundDesign, SoundSet, SoundSheet};
 use linear::table::Table;
 
@@ -21,12 +21,11 @@ impl SoundDesign<'_> {
         ensures { PlantOf self.now.n self.now.bytes.now result }
     {
         let SoundDesign { n, bytes } = *self;
-        let b_at = 3 + n * n;
-        let off_at = b_at + n;
+        let at = DesignParts::of(n);
         let over = natural_at(bytes, 2);
         let a = read_grid(bytes, 3, n, n, NUMBERS);
-        let b = read_row(bytes, b_at, n);
-        let off = read_row(bytes, off_at, n);
+        let b = read_row(bytes, at.b, n);
+        let off = read_row(bytes, at.off, n);
         Plant { over, a, b, off }
     }
 
@@ -35,10 +34,9 @@ impl SoundDesign<'_> {
         ensures { LawOf self.now.n self.now.bytes.now result }
     {
         let SoundDesign { n, bytes } = *self;
-        let over_law_at = 3 + n * n + n + n;
-        let k_at = over_law_at + 1;
-        let over_law = natural_at(bytes, over_law_at);
-        let k = read_row(bytes, k_at, n);
+        let at = DesignParts::of(n);
+        let over_law = natural_at(bytes, at.over_law);
+        let k = read_row(bytes, at.k, n);
         Law { over_law, k }
     }
 
@@ -48,11 +46,10 @@ impl SoundDesign<'_> {
         ensures spells { Spells self.now.bytes.now (design_count result.n) (design_number result) }
     {
         let SoundDesign { n, bytes } = *self;
-        let noise_at = 3 + n * n + n + n + 1 + n;
         let limit = natural_at(bytes, 1);
         let plant = self.plant();
         let law = self.law();
-        let noise = read_row(bytes, noise_at, n);
+        let noise = read_row(bytes, DesignParts::of(n).noise, n);
         Design {
             n,
             limit,

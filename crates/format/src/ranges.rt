@@ -7,7 +7,7 @@ ghost use Rattle.format.specs.Layouts.{design_range, set_range, sheet_range};
 
 use crate::layout::{Layout, Range};
 use crate::refusal::Document;
-use crate::sizes::{FACES, NUMBERS, Sizes, design_count};
+use crate::sizes::{DesignParts, FACES, NUMBERS, Sizes, design_count};
 
 /// What the ranges of a design's numbers depend on: its size, and the denominator that `off` has to be half of.
 #[derive(Clone, Copy)]
@@ -33,24 +33,20 @@ impl Layout for DesignLayout {
     }
 
     fn range(&self, i: usize) -> Range {
-        let n = self.n;
-        let off = 3 + n * n + n;
-        let over_law = off + n;
-        let k = over_law + 1;
-        let noise = k + n;
+        let at = DesignParts::of(self.n);
         if i < 1 {
             from_to(1, NUMBERS as i64)
         } else if i < 2 {
             from_to(1, 30_000)
         } else if i < 3 {
             from_to(1, 1_000)
-        } else if i < off {
+        } else if i < at.off {
             from_to(-2_000, 2_000)
-        } else if i < over_law {
+        } else if i < at.over_law {
             from_to(half_up(self.over), 1_000_000)
-        } else if i < k {
+        } else if i < at.k {
             from_to(1, 1_000)
-        } else if i < noise {
+        } else if i < at.noise {
             from_to(-2_000, 2_000)
         } else {
             from_to(0, 1_000)

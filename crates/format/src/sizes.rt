@@ -2,7 +2,7 @@
 ghost use Rattle.std.specs.Prelude.{◌≡◌, ℕ, ◌≤◌, IfSome};
 ghost use Rattle.std.specs.Option.{option_map};
 ghost use Rattle.format.specs.Reading.{both, size as size_of};
-ghost use Rattle.format.specs.Sizes.{most_numbers, most_faces, design_count, set_count, sheet_count};
+ghost use Rattle.format.specs.Sizes.{most_numbers, most_faces, b_at, off_at, over_law_at, k_at, noise_at, design_count, set_count, sheet_count};
 
 use crate::number::number_at;
 pub use linear::row::{NUMBERS, Row};
@@ -38,12 +38,51 @@ pub(crate) fn size(bytes: &[u8], most: usize) -> Option<usize>
         .filter(|n| (1..=most).contains(n))
 }
 
+/// Where the parts of a design begin after its plant's matrix, and where it ends: `b`, `off`, the law's denominator, its
+/// gains, and the noise.
+#[derive(Clone, Copy)]
+pub(crate) struct DesignParts {
+    pub b: usize,
+    pub off: usize,
+    pub over_law: usize,
+    pub k: usize,
+    pub noise: usize,
+    pub end: usize,
+}
+
+impl DesignParts {
+    /// The parts for a state of `n` numbers.
+    pub(crate) fn of(n: usize) -> DesignParts
+        requires { n ≤ most_numbers }
+        ensures b { result.b ≡ b_at n }
+        ensures off { result.off ≡ off_at n }
+        ensures over_law { result.over_law ≡ over_law_at n }
+        ensures k { result.k ≡ k_at n }
+        ensures noise { result.noise ≡ noise_at n }
+        ensures end { result.end ≡ design_count n }
+    {
+        let b = 3 + n * n;
+        let off = b + n;
+        let over_law = off + n;
+        let k = over_law + 1;
+        let noise = k + n;
+        DesignParts {
+            b,
+            off,
+            over_law,
+            k,
+            noise,
+            end: noise + n,
+        }
+    }
+}
+
 /// How many numbers a design has.
 pub(crate) fn design_count(n: usize) -> usize
     requires { n ≤ most_numbers }
     ensures { result ≡ design_count n }
 {
-    3 + n * n + n + n + 1 + n + n
+    DesignParts::of(n).end
 }
 
 /// The size of the state and the count of the faces.

@@ -55,12 +55,10 @@ pub(crate) fn check_design(bytes: &[u8]) -> Result<SoundDesign<'_>, Refusal>
     requires { Whole (design_given bytes.now) }
     ensures { MatchResult result (λ d. (d.bytes.now ≡ bytes.now) × Ranged (design_given bytes.now)) (FirstNumber Document.Design (design_given bytes.now)) }
 {
-    let Some(n) = size(bytes, NUMBERS) else {
-        return Err(Refusal::Range {
-            document: Document::Design,
-            place: 0,
-        });
-    };
+    let n = size(bytes, NUMBERS).ok_or(Refusal::Range {
+        document: Document::Design,
+        place: 0,
+    })?;
     let over = number_at(bytes, 2);
     in_range(&DesignLayout { n, over }, bytes)?;
     Ok(SoundDesign { n, bytes })
@@ -74,12 +72,10 @@ pub(crate) fn check_set<'a>(
     requires { Whole (set_given design.bytes.now bytes.now) }
     ensures { MatchResult result (λ s. (s.design.bytes.now ≡ design.entry.bytes.now) × (s.bytes.now ≡ bytes.now) × Ranged (set_given design.entry.bytes.now bytes.now)) (FirstNumber Document.Set (set_given design.entry.bytes.now bytes.now)) }
 {
-    let Some(faces) = size(bytes, FACES) else {
-        return Err(Refusal::Range {
-            document: Document::Set,
-            place: 0,
-        });
-    };
+    let faces = size(bytes, FACES).ok_or(Refusal::Range {
+        document: Document::Set,
+        place: 0,
+    })?;
     let sizes = Sizes { n: design.n, faces };
     in_range(&SetLayout { sizes }, bytes)?;
     Ok(SoundSet {

@@ -7,7 +7,7 @@ ghost use Rattle.format.specs.Values.{law_number, design_number, set_number, she
 use crate::certificate::Certificate;
 use crate::design::Design;
 use crate::faces::Faces;
-use crate::sizes::{FACES, NUMBERS, Sizes, design_count};
+use crate::sizes::{DesignParts, FACES, NUMBERS, Sizes, design_count};
 use crate::write::Numbered;
 use linear::table::Table;
 
@@ -34,22 +34,19 @@ impl Numbered for Design {
     }
 
     fn number(&self, i: usize) -> i64 {
-        let n = self.n;
-        let b = 3 + n * n;
-        let off = b + n;
-        let over_law = off + n;
+        let at = DesignParts::of(self.n);
         if i < 1 {
-            n as i64
+            self.n as i64
         } else if i < 2 {
             i64::from(self.limit)
         } else if i < 3 {
             i64::from(self.plant.over)
-        } else if i < b {
-            counted(&self.plant.a, NUMBERS, n, i - 3)
-        } else if i < off {
-            i64::from(self.plant.b.entry(i - b))
-        } else if i < over_law {
-            i64::from(self.plant.off.entry(i - off))
+        } else if i < at.b {
+            counted(&self.plant.a, NUMBERS, self.n, i - 3)
+        } else if i < at.off {
+            i64::from(self.plant.b.entry(i - at.b))
+        } else if i < at.over_law {
+            i64::from(self.plant.off.entry(i - at.off))
         } else {
             law_number(self, i)
         }
@@ -60,15 +57,13 @@ impl Numbered for Design {
 fn law_number(design: &Design, i: usize) -> i64
     ensures { result ≡ law_number design.now i }
 {
-    let n = design.n;
-    let k = 3 + n * n + n + n + 1;
-    let noise = k + n;
-    if i < k {
+    let at = DesignParts::of(design.n);
+    if i < at.k {
         i64::from(design.law.over_law)
-    } else if i < noise {
-        i64::from(design.law.k.entry(i - k))
+    } else if i < at.noise {
+        i64::from(design.law.k.entry(i - at.k))
     } else {
-        i64::from(design.noise.entry(i - noise))
+        i64::from(design.noise.entry(i - at.noise))
     }
 }
 
