@@ -11,7 +11,7 @@ use crate::certificate::Certificate;
 use crate::design::{Design, Law, Plant};
 use crate::faces::Faces;
 use crate::number::natural_at;
-use crate::sizes::{DesignParts, FACES, FACES_BY_NUMBERS, NUMBERS};
+use crate::sizes::{DesignParts, FACES, FACES_BY_NUMBERS, NUMBERS, SheetParts};
 use crate::sound::{SoundDesign, SoundSet, SoundSheet};
 use linear::table::Table;
 
@@ -125,12 +125,11 @@ impl SoundSheet<'_> {
     {
         let n = self.set.design.n;
         let count = self.set.faces;
-        let w_at = 1 + count * count;
-        let v_at = w_at + 2 * count;
+        let at = SheetParts::of(count);
         let scale = natural_at(self.bytes, 0);
         let m = self.multipliers(1, count);
-        let w = self.multipliers(w_at, 2);
-        let v = self.multipliers(v_at, 2 * n);
+        let w = self.multipliers(at.w, 2);
+        let v = self.multipliers(at.v, 2 * n);
         Certificate {
             n,
             count,

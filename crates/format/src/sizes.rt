@@ -2,7 +2,7 @@
 ghost use Rattle.std.specs.Prelude.{◌≡◌, ℕ, ◌≤◌, IfSome};
 ghost use Rattle.std.specs.Option.{option_map};
 ghost use Rattle.format.specs.Reading.{both, size as size_of};
-ghost use Rattle.format.specs.Sizes.{most_numbers, most_faces, b_at, off_at, over_law_at, k_at, noise_at, design_count, set_count, sheet_count};
+ghost use Rattle.format.specs.Sizes.{most_numbers, most_faces, b_at, off_at, over_law_at, k_at, noise_at, w_at, v_at, design_count, set_count, sheet_count};
 
 use crate::number::number_at;
 pub use linear::row::{NUMBERS, Row};
@@ -85,6 +85,28 @@ pub(crate) fn design_count(n: usize) -> usize
     DesignParts::of(n).end
 }
 
+/// Where the parts of a sheet begin after its multipliers for the faces: those for the signs, and those for the numbers.
+#[derive(Clone, Copy)]
+pub(crate) struct SheetParts {
+    pub w: usize,
+    pub v: usize,
+}
+
+impl SheetParts {
+    /// The parts for a set of `faces` faces.
+    pub(crate) fn of(faces: usize) -> SheetParts
+        requires { faces ≤ most_faces }
+        ensures w { result.w ≡ w_at faces }
+        ensures v { result.v ≡ v_at faces }
+    {
+        let w = 1 + faces * faces;
+        SheetParts {
+            w,
+            v: w + 2 * faces,
+        }
+    }
+}
+
 /// The size of the state and the count of the faces.
 #[derive(Clone, Copy, Debug, PartialEq, Eq)]
 pub(crate) struct Sizes {
@@ -115,6 +137,6 @@ impl Sizes {
         ensures { result ≡ sheet_count self.n self.faces }
     {
         let Sizes { n, faces } = self;
-        1 + faces * faces + 2 * faces + 2 * n * faces
+        SheetParts::of(faces).v + 2 * n * faces
     }
 }

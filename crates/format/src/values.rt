@@ -7,7 +7,7 @@ ghost use Rattle.format.specs.Values.{law_number, design_number, set_number, she
 use crate::certificate::Certificate;
 use crate::design::Design;
 use crate::faces::Faces;
-use crate::sizes::{DesignParts, FACES, NUMBERS, Sizes, design_count};
+use crate::sizes::{DesignParts, FACES, NUMBERS, SheetParts, Sizes, design_count};
 use crate::write::Numbered;
 use linear::table::Table;
 
@@ -109,16 +109,15 @@ impl Numbered for Certificate {
 
     fn number(&self, i: usize) -> i64 {
         let count = self.count;
-        let w = 1 + count * count;
-        let v = w + 2 * count;
+        let at = SheetParts::of(count);
         if i < 1 {
             i64::from(self.scale)
-        } else if i < w {
+        } else if i < at.w {
             counted(&self.m, FACES, count, i - 1)
-        } else if i < v {
-            counted(&self.w, FACES, count, i - w)
+        } else if i < at.v {
+            counted(&self.w, FACES, count, i - at.w)
         } else {
-            counted(&self.v, FACES, count, i - v)
+            counted(&self.v, FACES, count, i - at.v)
         }
     }
 }
