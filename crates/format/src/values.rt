@@ -9,6 +9,7 @@ use crate::design::Design;
 use crate::faces::Faces;
 use crate::sizes::{DesignParts, FACES, NUMBERS, SheetParts, Sizes, design_count};
 use crate::write::Numbered;
+use linear::line::{Ending, Line};
 use linear::table::Table;
 
 /// Entry `k` of a table whose rows are `stride` apart, counted over the first `columns` of each row.
@@ -18,10 +19,10 @@ fn counted<const LEN: usize, const BOUND: u32>(
     columns: usize,
     k: usize,
 ) -> i64
-    requires { (0 < columns) × ((stride ≤ most_faces) × (k < 2 ^ 32)) }
+    requires { 0 < columns }
     ensures { result ≡ grid_of stride table.now.cells (k / columns) (k % columns) }
 {
-    i64::from(table.entry(stride * (k / columns) + k % columns))
+    table.row(stride, k / columns).at(k % columns)
 }
 
 impl Numbered for Design {
@@ -44,26 +45,28 @@ impl Numbered for Design {
         } else if i < at.b {
             counted(&self.plant.a, NUMBERS, self.n, i - 3)
         } else if i < at.off {
-            i64::from(self.plant.b.entry(i - at.b))
+            self.plant.b.at(i - at.b)
         } else if i < at.over_law {
-            i64::from(self.plant.off.entry(i - at.off))
+            self.plant.off.at(i - at.off)
         } else {
-            law_number(self, i)
+            self.law_number(i)
         }
     }
 }
 
-/// Number `i` of the design, from the law's denominator on.
-fn law_number(design: &Design, i: usize) -> i64
-    ensures { result ≡ law_number design.now i }
-{
-    let at = DesignParts::of(design.n);
-    if i < at.k {
-        i64::from(design.law.over_law)
-    } else if i < at.noise {
-        i64::from(design.law.k.entry(i - at.k))
-    } else {
-        i64::from(design.noise.entry(i - at.noise))
+impl Design {
+    /// Number `i` of the design, from the law's denominator on.
+    fn law_number(&self, i: usize) -> i64
+        ensures { result ≡ law_number self.now i }
+    {
+        let at = DesignParts::of(self.n);
+        if i < at.k {
+            i64::from(self.law.over_law)
+        } else if i < at.noise {
+            self.law.k.at(i - at.k)
+        } else {
+            self.noise.at(i - at.noise)
+        }
     }
 }
 
@@ -87,9 +90,9 @@ impl Numbered for Faces {
         let f = (i - 1) / (self.n + 1);
         let j = (i - 1) % (self.n + 1);
         if j < self.n {
-            i64::from(self.h.entry(NUMBERS * f + j))
+            self.h.row(NUMBERS, f).at(j)
         } else {
-            i64::from(self.tops.entry(f))
+            self.tops.at(f)
         }
     }
 }

@@ -12,11 +12,9 @@ pub trait Numbered {
     ghost numbers: { Self → ℕ → ℤ };
 
     fn count(&self) -> usize
-        ensures value { result ≡ counts self.now }
-        ensures bound { result < 2 ^ 32 };
+        ensures { result ≡ counts self.now };
 
     fn number(&self, i: usize) -> i64
-        requires { i < 2 ^ 32 }
         ensures { result ≡ numbers self.now i };
 }
 
