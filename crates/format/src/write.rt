@@ -12,7 +12,8 @@ pub trait Numbered {
     ghost numbers: { Self → ℕ → ℤ };
 
     fn count(&self) -> usize
-        ensures { result ≡ counts self.now };
+        ensures value { result ≡ counts self.now }
+        ensures bound { result < 2 ^ 32 };
 
     fn number(&self, i: usize) -> i64
         ensures { result ≡ numbers self.now i };
