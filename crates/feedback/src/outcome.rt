@@ -5,7 +5,7 @@ ghost use Rattle.feedback.specs.declared.outcome.Outcome.TheVariants.{Outside};
 use law::Command;
 use voter::SENSORS;
 
-/// What a beat comes to.
+/// What a beat comes to. A `Result` would make an error of a refused beat, after which the loop goes on.
 #[derive(Clone, Copy, Debug, PartialEq, Eq)]
 pub enum Outcome {
     /// What is done, and which sensors are called bad.

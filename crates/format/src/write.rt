@@ -24,6 +24,7 @@ pub fn write<D: Numbered>(document: &D, heap: Global) -> Result<Vec<u8>, AllocEr
     ensures { IfOk result (λ v. Spells v.items (D.counts document.now) (D.numbers document.now)) }
 {
     let mut bytes = Vec::new(heap);
+    // There is no slice of the numbers: they are had by their index.
     for i in 0..document.count() {
         bytes.extend_from_slice(&document.number(i).to_le_bytes())?;
     }

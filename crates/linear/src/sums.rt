@@ -12,6 +12,7 @@ pub fn dot<X: Ending, Y: Line>(n: usize, x: &X, y: &Y) -> i64
     ensures cut { unsigned_abs result ≤ min n X.end * (X.size * Y.size) }
 {
     let mut total = 0;
+    // Not `map` and `sum`: of a sum of signed numbers the library shows no bound.
     for k in 0..n.min(x.end()) {
         total += x.at(k) * y.at(k);
     }

@@ -10,6 +10,7 @@ use std::array;
 /// At how many beats in a row at which it differs a sensor is called bad.
 pub const PERSISTENCE: u8 = 40;
 
+// By hand, since a derive cannot show a ghost field.
 impl Default for Watch {
     ghost is_default = { λ w. seen w ≡ unseen };
 

@@ -4,7 +4,8 @@ ghost use Rattle.voter.specs.Sizes.{persistence, sensors};
 
 use crate::reading::SENSORS;
 
-/// For how many beats in a row a sensor has differed from the middle, and whether it was called bad.
+/// For how many beats in a row a sensor has differed from the middle, and whether it was called bad. Both are needed: one
+/// that is bad is counted on.
 #[derive(Clone, Copy, Debug, PartialEq, Eq)]
 pub struct Watch {
     pub count: u8,
