@@ -5,6 +5,7 @@ ghost use Rattle.format.specs.Faults.{fault_report};
 
 use crate::refusal::Refusal;
 use crate::report::Report;
+use std::error::Error;
 use std::fmt;
 
 /// The first fault of a design, a set and readings. A place is a byte of its own document, counted from 0.
@@ -48,3 +49,5 @@ impl fmt::Display for Fault {
         self.report().fmt(f)
     }
 }
+
+impl Error for Fault {}

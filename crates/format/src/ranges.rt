@@ -65,8 +65,7 @@ fn from_to(low: i64, high: i64) -> Range
 fn half_up(x: i64) -> i64
     ensures { result ≡ pos ((unsigned_abs x + 1) / 2) }
 {
-    let size = x.unsigned_abs();
-    (size / 2 + size % 2) as i64
+    x.unsigned_abs().div_ceil(2) as i64
 }
 
 /// The sizes of a set: on that of the state it depends where a face's row ends and its top stands.

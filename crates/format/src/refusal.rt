@@ -3,6 +3,7 @@ ghost use Rattle.std.specs.Prelude.{◌≡◌, Some};
 ghost use Rattle.format.specs.Refusals.{refusal_line, report as report_of};
 
 use crate::report::Report;
+use std::error::Error;
 use std::fmt;
 
 /// How many places of a refusal each sensor or face has: one for each number of the state, and some to spare.
@@ -59,3 +60,5 @@ impl fmt::Display for Refusal {
         self.report().fmt(f)
     }
 }
+
+impl Error for Refusal {}

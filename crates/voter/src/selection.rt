@@ -8,9 +8,7 @@ use crate::reading::{Coordinate, Reading};
 fn middle_of(a: i32, b: i32, c: i32) -> i32
     ensures { result ≡ mid a b c }
 {
-    let low = a.min(b);
-    let high = a.max(b);
-    low.max(high.min(c))
+    c.clamp(a.min(b), a.max(b))
 }
 
 /// The middle one of three readings.
