@@ -7,7 +7,7 @@ ghost use Rattle.format.specs.Recordings.{frame, Padded, FirstSpoilt, readings_c
 use crate::fault::Fault;
 use crate::faults::fits;
 use crate::refusal::Document;
-use crate::sizes::{Sizes, design_count, size};
+use crate::sizes::{DesignParts, Sizes, size};
 use crate::sound::{SoundSet, check_design, check_set};
 use linear::row::NUMBERS;
 
@@ -47,7 +47,7 @@ fn check_form(design: &[u8], set: &[u8], readings: &[u8]) -> Result<(), Fault>
 {
     let n = size(design, NUMBERS);
     let sizes = Sizes::of(design, set);
-    fits(Document::Design, design, n.map(design_count))?;
+    fits(Document::Design, design, n.map(|n| DesignParts::of(n).end))?;
     fits(Document::Set, set, sizes.map(Sizes::set_count))?;
     match n {
         Some(n) => check_readings(readings, n),

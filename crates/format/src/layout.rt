@@ -43,18 +43,13 @@ pub trait Layout {
         ensures { result ≡ ranges self.now i };
 }
 
-/// Whether number `i` of the document is in its range.
-fn in_range<L: Layout>(layout: &L, bytes: &[u8], i: usize) -> bool
-    requires { 8 * i + 8 ≤ length bytes.now }
-    ensures { MatchBool result (In (L.ranges layout.now i) (number_of bytes.now i)) (Out (L.ranges layout.now) bytes.now i) }
-{
-    layout.range(i).contains(number_at(bytes, i))
-}
-
 /// The first of the document's `count` numbers that is out of its range.
 pub(crate) fn first_out<L: Layout>(layout: &L, bytes: &[u8], count: usize) -> Option<usize>
     requires { 8 * count ≤ length bytes.now }
     ensures { MatchOption result (AllIn (L.ranges layout.now) bytes.now count) (λ k. FirstOut (L.ranges layout.now) bytes.now count (8 * k)) }
 {
-    (0..count).find(|i| !in_range(layout, bytes, *i))
+    (0..count).find(|i| {
+        let x = number_at(bytes, *i);
+        !layout.range(*i).contains(x)
+    })
 }

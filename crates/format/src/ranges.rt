@@ -7,7 +7,7 @@ ghost use Rattle.format.specs.Layouts.{design_range, set_range, sheet_range};
 
 use crate::layout::{Layout, Range};
 use crate::refusal::Document;
-use crate::sizes::{DesignParts, FACES, NUMBERS, Sizes, design_count};
+use crate::sizes::{DesignParts, FACES, NUMBERS, Sizes};
 
 /// What the ranges of a design's numbers depend on: its size, and the denominator that `off` has to be half of.
 #[derive(Clone, Copy)]
@@ -29,7 +29,7 @@ impl Layout for DesignLayout {
     }
 
     fn count(&self) -> usize {
-        design_count(self.n)
+        DesignParts::of(self.n).end
     }
 
     fn range(&self, i: usize) -> Range {

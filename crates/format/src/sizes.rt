@@ -77,14 +77,6 @@ impl DesignParts {
     }
 }
 
-/// How many numbers a design has.
-pub(crate) fn design_count(n: usize) -> usize
-    requires { n ≤ most_numbers }
-    ensures { result ≡ design_count n }
-{
-    DesignParts::of(n).end
-}
-
 /// Where the parts of a sheet begin after its multipliers for the faces: those for the signs, and those for the numbers.
 #[derive(Clone, Copy)]
 pub(crate) struct SheetParts {

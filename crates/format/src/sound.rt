@@ -9,7 +9,7 @@ use crate::faults::{fits, in_range};
 use crate::number::number_at;
 use crate::ranges::{DesignLayout, SetLayout, SheetLayout};
 use crate::refusal::{Document, Refusal};
-use crate::sizes::{FACES, NUMBERS, Sizes, design_count, size};
+use crate::sizes::{DesignParts, FACES, NUMBERS, Sizes, size};
 
 /// The bytes of a sound design, of a state of `n` numbers.
 #[derive(Clone, Copy)]
@@ -44,7 +44,7 @@ fn check_lengths(design: &[u8], set: &[u8], sheet: &[u8]) -> Result<(), Refusal>
     fits(
         Document::Design,
         design,
-        size(design, NUMBERS).map(design_count),
+        size(design, NUMBERS).map(|n| DesignParts::of(n).end),
     )?;
     fits(Document::Set, set, sizes.map(Sizes::set_count))?;
     fits(Document::Sheet, sheet, sizes.map(Sizes::sheet_count))

@@ -7,7 +7,7 @@ ghost use Rattle.format.specs.Values.{law_number, design_number, set_number, she
 use crate::certificate::Certificate;
 use crate::design::Design;
 use crate::faces::Faces;
-use crate::sizes::{DesignParts, FACES, NUMBERS, SheetParts, Sizes, design_count};
+use crate::sizes::{DesignParts, FACES, NUMBERS, SheetParts, Sizes};
 use crate::write::Numbered;
 use linear::line::{Ending, Line};
 use linear::table::Table;
@@ -31,7 +31,7 @@ impl Numbered for Design {
     ghost numbers = { λ d i. design_number d i };
 
     fn count(&self) -> usize {
-        design_count(self.n)
+        DesignParts::of(self.n).end
     }
 
     fn number(&self, i: usize) -> i64 {
