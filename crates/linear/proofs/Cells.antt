@@ -1,15 +1,10 @@
 -- Cells that a loop writes one by one, and tables with equal cells.
-use Rattle.std.proofs.Common.{◌≡◌, ℕ, zero, suc, ◌+◌, ◌^◌, ◌<◌, ◌≤◌, ◌≢◌, List, [], ◌∷◌, length, set, replicate, ℤ, pos, nat_abs, arith, get_or-set_other, get_or-set_same, w32, w64, SFits, to_z, of_z, below_more}
+use Rattle.std.proofs.Common.{◌≡◌, ℕ, zero, suc, ◌+◌, ◌^◌, ◌<◌, ◌≤◌, ◌≢◌, List, [], ◌∷◌, length, set, ℤ, nat_abs, arith, get_or-set_other, get_or-set_same, w32, w64, SFits, to_z, of_z, below_more}
 use mathlib.Core.HLevel.{is_prop→PathP}
 use denote.Struct.Props.{props}
 use borrow.Author.Differences.{ints}
 use Rattle.linear.specs.Tables.{at, Within}
 use Rattle.linear.specs.declared.table.Table.{Table}
-
-pub zeros_within : (b n : ℕ) → Within b (replicate n (pos 0))
-zeros_within b zero i = omega arith
-zeros_within b (suc n) zero = omega arith
-zeros_within b (suc n) (suc i) = zeros_within b n i
 
 pub set_within : (b : ℕ) (xs : List ℤ) (i : ℕ) (v : ℤ) → Within b xs → nat_abs v ≤ b → Within b (set xs i v)
 set_within b [] i v w h k = w k

@@ -1,6 +1,5 @@
 -- Lemmas that several proofs share, here and in the crates above.
 pub mod Cells
-pub mod Lines
 pub mod Made
 pub mod Products
 pub mod Ring
