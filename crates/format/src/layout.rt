@@ -1,9 +1,8 @@
 //! One search for the first number out of its range, whatever the document.
-ghost use Rattle.std.specs.Prelude.{◌≡◌, ℕ, ◌+◌, ◌*◌, ◌≤◌, length, MatchBool, MatchOption};
+ghost use Rattle.std.specs.Prelude.{◌≡◌, ℕ, ◌*◌, ◌≤◌, length, MatchBool, MatchOption};
 ghost use Rattle.format.specs.declared.layout.Range.{Range};
 ghost use Rattle.format.specs.declared.refusal.Document.{Document};
-ghost use Rattle.format.specs.Numbers.{number as number_of};
-ghost use Rattle.format.specs.Ranges.{In, AllIn, Out};
+ghost use Rattle.format.specs.Ranges.{In, AllIn};
 ghost use Rattle.format.specs.Refusals.{FirstOut};
 
 use crate::number::number_at;

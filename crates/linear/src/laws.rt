@@ -1,4 +1,5 @@
-//! What holds of all sums, as contracts of functions that do nothing, and what `dot` promises of a table's rows and columns.
+//! What holds of all sums, as contracts of functions that do nothing. Below them, what `dot` promises of a table's rows and
+//! columns, on private functions that nothing calls: they hold it to that.
 ghost use Rattle.std.specs.Prelude.{◌≡◌, ◌*◌, ◌^◌, ◌<◌, ◌≤◌, min, unsigned_abs};
 ghost use Rattle.linear.specs.Laws.{Plus, Factor, Swapped, Order, Size};
 ghost use Rattle.linear.specs.Ranges.{Ranges, AllSmall};

@@ -9,11 +9,11 @@ use linear::row::{NUMBERS, RANGE};
 pub const SENSORS: usize = 3;
 
 /// What a sensor sent of one number of the state. It may be any number: a faulty sensor sends what it likes.
-#[derive(Clone, Copy, Debug, Default, PartialEq, Eq)]
+#[derive(Clone, Copy, Debug, PartialEq, Eq)]
 pub struct Reading(pub i32);
 
 /// A number of the state as the loop takes it to be.
-#[derive(Clone, Copy, Debug, Default, PartialEq, Eq)]
+#[derive(Clone, Copy, Debug, PartialEq, Eq)]
 pub struct Coordinate(pub i32);
 
 /// What the sensors sent at a beat: for each sensor its reading of each number of the state.
