@@ -65,7 +65,7 @@ pub fn end<R: Display + Drop>(
         Ok(()) => return ExitCode::SUCCESS,
         Err(Failure::Refused(refusal)) => return refuse(rt, refusal),
         Err(Failure::Usage) => eprintln!(rt; "usage: {program} {documents}"),
-        Err(Failure::Unreadable { path, error }) => eprintln!(rt; "{program}: {path}: {error}"),
+        Err(failure @ Failure::Unreadable { .. }) => eprintln!(rt; "{program}: {failure}"),
         Err(failure) => eprintln!(rt; "Error: {failure}"),
     };
     ExitCode::FAILURE

@@ -13,7 +13,7 @@ use voter::SENSORS;
 /// The number of the refusal of a beat at which two sensors have a reading outside.
 const OUTSIDE_NUMBER: u8 = 9;
 
-/// What is told of it: the places go sensor after sensor and number after number.
+/// What is told of that refusal: the places go sensor after sensor and number after number.
 fn outside(sensor: u8, number: u8) -> Report
     ensures number { result.number ≡ outside_number }
     ensures place { result.place ≡ sensor * places + number }

@@ -21,7 +21,7 @@ const CARRIED: usize = 6;
 fn first_spoilt(bytes: &[u8]) -> Option<usize>
     ensures { MatchOption result (Padded bytes.now (length bytes.now)) (FirstSpoilt bytes.now) }
 {
-    (0..bytes.len()).find(|p| *p % GROUP >= CARRIED && bytes[*p] != 0)
+    (0..bytes.len()).find(|&p| p % GROUP >= CARRIED && bytes[p] != 0)
 }
 
 /// That the readings are whole beats of a state of size `n` whose padding is 0, or where they are not.
@@ -29,7 +29,7 @@ fn check_readings(readings: &[u8], n: usize) -> Result<(), Fault>
     requires { (1 ≤ n) × (n ≤ most_numbers) }
     ensures { Passed (readings_check readings.now n) result }
 {
-    if readings.len() % (GROUP * n) != 0 {
+    if !readings.len().is_multiple_of(GROUP * n) {
         return Err(Fault::Beats {
             place: readings.len(),
         });

@@ -43,10 +43,10 @@ pub(crate) fn read_block<const LEN: usize, const BOUND: u32>(
     requires small { Each block (Small BOUND bytes.now) }
     ensures { (s : ℕ) → s < LEN → entry_of result.cells s ≡ slot_of bytes.now block s }
 {
-    // `array::from_fn` would ask this function and three above it to require that an array of `LEN` fits memory.
+    // Not `array::from_fn`, which would ask each caller for a proof that an array of `LEN` fits memory.
     let mut cells = [0i32; LEN];
-    for s in 0..LEN {
-        cells[s] = block.slot(bytes, s) as i32;
+    for (s, cell) in cells.iter_mut().enumerate() {
+        *cell = block.slot(bytes, s) as i32;
     }
     Table { cells }
 }

@@ -27,7 +27,7 @@ pub(crate) fn in_range<L: Layout>(layout: &L, bytes: &[u8]) -> Result<(), Refusa
     requires { 8 * L.counts layout.now ≤ length bytes.now }
     ensures { MatchResult result (λ _. AllIn (L.ranges layout.now) bytes.now (L.counts layout.now)) (λ e. (place : ℕ) × (e ≡ Refusal.Range (L.kind layout.now) place) × FirstOut (L.ranges layout.now) bytes.now (L.counts layout.now) place) }
 {
-    match first_out(layout, bytes, layout.count()) {
+    match first_out(layout, bytes) {
         None => Ok(()),
         Some(k) => Err(Refusal::Range {
             document: layout.document(),

@@ -20,7 +20,7 @@ impl Range {
     fn contains(self, x: i64) -> bool
         ensures { MatchBool result (In self x) (In self x → ⊥) }
     {
-        self.low <= x && x <= self.high
+        (self.low..=self.high).contains(&x)
     }
 }
 
@@ -42,12 +42,12 @@ pub trait Layout {
         ensures { result ≡ ranges self.now i };
 }
 
-/// The first of the document's `count` numbers that is out of its range.
-pub(crate) fn first_out<L: Layout>(layout: &L, bytes: &[u8], count: usize) -> Option<usize>
-    requires { 8 * count ≤ length bytes.now }
-    ensures { MatchOption result (AllIn (L.ranges layout.now) bytes.now count) (λ k. FirstOut (L.ranges layout.now) bytes.now count (8 * k)) }
+/// The first of the document's numbers that is out of its range.
+pub(crate) fn first_out<L: Layout>(layout: &L, bytes: &[u8]) -> Option<usize>
+    requires { 8 * L.counts layout.now ≤ length bytes.now }
+    ensures { MatchOption result (AllIn (L.ranges layout.now) bytes.now (L.counts layout.now)) (λ k. FirstOut (L.ranges layout.now) bytes.now (L.counts layout.now) (8 * k)) }
 {
-    (0..count).find(|i| {
+    (0..layout.count()).find(|i| {
         let x = number_at(bytes, *i);
         !layout.range(*i).contains(x)
     })

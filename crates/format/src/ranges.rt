@@ -1,5 +1,5 @@
 //! The ranges of the three documents.
-ghost use Rattle.std.specs.Prelude.{◌≡◌, ◌+◌, ◌*◌, ◌/◌, ◌<◌, ◌≤◌, pos, unsigned_abs};
+ghost use Rattle.std.specs.Prelude.{◌≡◌, ◌+◌, ◌/◌, ◌<◌, ◌≤◌, pos, unsigned_abs};
 ghost use Rattle.format.specs.declared.refusal.Document.TheVariants.{Design, Set, Sheet};
 ghost use Rattle.format.specs.Sizes.{most_numbers, design_count, set_count, sheet_count};
 ghost use Rattle.format.specs.Ranges.{from_to};
@@ -34,27 +34,20 @@ impl Layout for DesignLayout {
 
     fn range(&self, i: usize) -> Range {
         let at = DesignParts::of(self.n);
-        if i < 1 {
-            from_to(1, NUMBERS as i64)
-        } else if i < 2 {
-            from_to(1, 30_000)
-        } else if i < 3 {
-            from_to(1, 1_000)
-        } else if i < at.off {
-            from_to(-2_000, 2_000)
-        } else if i < at.over_law {
-            from_to(half_up(self.over), 1_000_000)
-        } else if i < at.k {
-            from_to(1, 1_000)
-        } else if i < at.noise {
-            from_to(-2_000, 2_000)
-        } else {
-            from_to(0, 1_000)
+        match i {
+            0 => from_to(1, NUMBERS as i64),
+            1 => from_to(1, 30_000),
+            2 => from_to(1, 1_000),
+            i if i < at.off => from_to(-2_000, 2_000),
+            i if i < at.over_law => from_to(half_up(self.over), 1_000_000),
+            i if i < at.k => from_to(1, 1_000),
+            i if i < at.noise => from_to(-2_000, 2_000),
+            _ => from_to(0, 1_000),
         }
     }
 }
 
-/// The range of the numbers from `low` to `high`.
+/// The range of the numbers from `low` to `high`: shorter at a dozen places than the fields by name.
 fn from_to(low: i64, high: i64) -> Range
     ensures { result ≡ from_to low high }
 {
@@ -91,12 +84,10 @@ impl Layout for SetLayout {
 
     fn range(&self, i: usize) -> Range {
         let n = self.sizes.n;
-        if i < 1 {
-            from_to(1, FACES as i64)
-        } else if (i - 1) % (n + 1) < n {
-            from_to(-100, 100)
-        } else {
-            from_to(0, 3_000_000)
+        match i {
+            0 => from_to(1, FACES as i64),
+            i if (i - 1) % (n + 1) < n => from_to(-100, 100),
+            _ => from_to(0, 3_000_000),
         }
     }
 }
@@ -123,10 +114,9 @@ impl Layout for SheetLayout {
     }
 
     fn range(&self, i: usize) -> Range {
-        if i < 1 {
-            from_to(1, 100)
-        } else {
-            from_to(0, 500_000_000)
+        match i {
+            0 => from_to(1, 100),
+            _ => from_to(0, 500_000_000),
         }
     }
 }

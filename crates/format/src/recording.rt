@@ -76,7 +76,7 @@ fn sensor_row(n: usize, bytes: &[u8], c: u8) -> [Reading; NUMBERS]
 pub fn readings_of(n: usize, bytes: &[u8]) -> Readings
     ensures { (c i : ℕ) → sent result c i ≡ heard n bytes.now c i }
 {
-    // Not a `map` over the sensors: of a closure that gives an array the proof learns nothing.
+    // A closure over the sensors would need a contract of its own.
     [
         sensor_row(n, bytes, 0),
         sensor_row(n, bytes, 1),

@@ -4,7 +4,7 @@ ghost use Rattle.format.specs.Refusals.{refusal_line};
 
 use std::fmt;
 
-/// Which rule is broken, by its number, and where.
+/// Which rule is broken, by the number that is printed, and where.
 #[derive(Clone, Copy, Debug, PartialEq, Eq)]
 pub struct Report {
     pub number: u8,

@@ -1,4 +1,4 @@
-//! The largest sizes, those of the tables, and how many numbers the documents have.
+//! The largest sizes, those of the tables, where the parts of the documents begin, and how many numbers they have.
 ghost use Rattle.std.specs.Prelude.{◌≡◌, ℕ, ◌≤◌, IfSome};
 ghost use Rattle.std.specs.Option.{option_map};
 ghost use Rattle.format.specs.Reading.{both, size as size_of};

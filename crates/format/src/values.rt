@@ -1,7 +1,7 @@
 //! The numbers of the three documents.
-ghost use Rattle.std.specs.Prelude.{◌≡◌, ◌+◌, ◌*◌, ◌/◌, ◌%◌, ◌^◌, ◌<◌, ◌≤◌};
+ghost use Rattle.std.specs.Prelude.{◌≡◌, ◌+◌, ◌/◌, ◌%◌, ◌<◌};
 ghost use Rattle.linear.specs.Tables.{grid as grid_of};
-ghost use Rattle.format.specs.Sizes.{most_faces, design_count, set_count, sheet_count};
+ghost use Rattle.format.specs.Sizes.{design_count, set_count, sheet_count};
 ghost use Rattle.format.specs.Values.{law_number, design_number, set_number, sheet_number};
 
 use crate::certificate::Certificate;
@@ -36,20 +36,14 @@ impl Numbered for Design {
 
     fn number(&self, i: usize) -> i64 {
         let at = DesignParts::of(self.n);
-        if i < 1 {
-            self.n as i64
-        } else if i < 2 {
-            i64::from(self.limit)
-        } else if i < 3 {
-            i64::from(self.plant.over)
-        } else if i < at.b {
-            counted(&self.plant.a, NUMBERS, self.n, i - 3)
-        } else if i < at.off {
-            self.plant.b.at(i - at.b)
-        } else if i < at.over_law {
-            self.plant.off.at(i - at.off)
-        } else {
-            self.law_number(i)
+        match i {
+            0 => self.n as i64,
+            1 => i64::from(self.limit),
+            2 => i64::from(self.plant.over),
+            i if i < at.b => counted(&self.plant.a, NUMBERS, self.n, i - 3),
+            i if i < at.off => self.plant.b.at(i - at.b),
+            i if i < at.over_law => self.plant.off.at(i - at.off),
+            _ => self.law_number(i),
         }
     }
 }
@@ -113,14 +107,11 @@ impl Numbered for Certificate {
     fn number(&self, i: usize) -> i64 {
         let count = self.count;
         let at = SheetParts::of(count);
-        if i < 1 {
-            i64::from(self.scale)
-        } else if i < at.w {
-            counted(&self.m, FACES, count, i - 1)
-        } else if i < at.v {
-            counted(&self.w, FACES, count, i - at.w)
-        } else {
-            counted(&self.v, FACES, count, i - at.v)
+        match i {
+            0 => i64::from(self.scale),
+            i if i < at.w => counted(&self.m, FACES, count, i - 1),
+            i if i < at.v => counted(&self.w, FACES, count, i - at.w),
+            _ => counted(&self.v, FACES, count, i - at.v),
         }
     }
 }

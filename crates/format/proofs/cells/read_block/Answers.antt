@@ -8,7 +8,7 @@ pub loop-s-preserved : goal.loop-s-preserved
 loop-s-preserved g c =
     let f : ℕ → ℤ = slot c.args.bytes.now c.args.block in
     let small : nat_abs (f c.loop-s.s) ≤ g.row.BOUND = slot_small _ c.args.block _ c.requires.small c.loop-s.s in
-    let l : c.loop-s.s < length c.loop-s.cells = omega arith in
+    let l : c.loop-s.s < length c.loop-s.cell-items = omega arith in
     let e = narrowed c.slot.result (f c.loop-s.s) g.row.BOUND (search rules) c.slot.ensures small c.requires.narrow in
     simp e
     (length-set _ _ _ ∙ c.loop-s.invariant.0, set_within _ _ _ _ c.loop-s.invariant.1 small, entries_more f _ _ l c.loop-s.invariant.2)

@@ -5,6 +5,6 @@ use Rattle.format.proofs.cells.read_block.Given as goal
 
 abbrev pub invariant-loop-s : goal.invariant-loop-s
 invariant-loop-s g l =
-    (length l.cells ≡ g.row.LEN)
-    × Within g.row.BOUND l.cells
-    × ((k : ℕ) → k < l.s → at l.cells k ≡ slot l.bytes l.block k)
+    (length l.cell-items ≡ g.row.LEN)
+    × Within g.row.BOUND l.cell-items
+    × ((k : ℕ) → k < l.s → at l.cell-items k ≡ slot l.bytes l.block k)

@@ -17,5 +17,5 @@ pub returns : goal.returns
 returns g c =
     let ranges : ℕ → Range = g.L.Layout.ranges c.args.layout.now in
     let bytes = c.args.bytes.now in
-    found ranges bytes c.args.count c.find.result
-    (first_from_Range _ _ _ _ (Out ranges bytes) (λ k. In (ranges k) (number bytes k)) c.find.ensures.ran (λ x q k. search (rules, tests)) (λ x q k. search (rules, tests)))
+    rw c.count.ensures at (found ranges bytes c.count.result c.find.result
+    (first_from_Range _ _ _ _ (Out ranges bytes) (λ k. In (ranges k) (number bytes k)) c.find.ensures.ran (λ x q k. search (rules, tests)) (λ x q k. search (rules, tests))))
