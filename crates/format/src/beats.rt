@@ -45,7 +45,7 @@ fn check_readings(readings: &[u8], n: usize) -> Result<(), Fault>
 fn check_form(design: &[u8], set: &[u8], readings: &[u8]) -> Result<(), Fault>
     ensures { Passed (recording_form design.now set.now readings.now) result }
 {
-    let n = size(design, NUMBERS);
+    let n = size(Document::Design, design, NUMBERS).ok();
     let sizes = Sizes::of(design, set);
     fits(Document::Design, design, n.map(|n| DesignParts::of(n).end))?;
     fits(Document::Set, set, sizes.map(Sizes::set_count))?;

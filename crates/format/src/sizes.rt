@@ -1,10 +1,12 @@
 //! The largest sizes, those of the tables, where the parts of the documents begin, and how many numbers they have.
-ghost use Rattle.std.specs.Prelude.{◌≡◌, ℕ, ◌≤◌, IfSome};
+ghost use Rattle.std.specs.Prelude.{◌≡◌, ℕ, ◌≤◌, MatchResult};
 ghost use Rattle.std.specs.Option.{option_map};
+ghost use Rattle.std.specs.Result.{result_ok};
 ghost use Rattle.format.specs.Reading.{both, size as size_of};
 ghost use Rattle.format.specs.Sizes.{most_numbers, most_faces, b_at, off_at, over_law_at, k_at, noise_at, w_at, v_at, design_count, set_count, sheet_count};
 
 use crate::number::number_at;
+use crate::refusal::{Document, Refusal};
 pub use linear::row::{NUMBERS, Row};
 
 /// The most faces of a set. The rows of a table over the faces are as far apart.
@@ -25,17 +27,19 @@ pub const SIGNS_BY_FACES: usize = 2 * FACES;
 /// Rows over the faces, for each number of the state and sign.
 pub const SIGNED_NUMBERS_BY_FACES: usize = 2 * NUMBERS * FACES;
 
-/// The size that the document's first number gives, where that is one from 1 to `most`.
-pub(crate) fn size(bytes: &[u8], most: usize) -> Option<usize>
-    ensures value { result ≡ size_of most bytes.now }
-    ensures bound { IfSome result (λ n. (1 ≤ n) × (n ≤ most)) }
+/// The size that the document's first number gives, where that is one from 1 to `most`, or its refusal.
+pub(crate) fn size(document: Document, bytes: &[u8], most: usize) -> Result<usize, Refusal>
+    ensures value { result_ok result ≡ size_of most bytes.now }
+    ensures cases { MatchResult result (λ n. (1 ≤ n) × (n ≤ most)) (λ e. e ≡ Refusal.Range document 0) }
 {
+    let refusal = Refusal::Range { document, place: 0 };
     if bytes.len() < 8 {
-        return None;
+        return Err(refusal);
     }
     usize::try_from(number_at(bytes, 0))
         .ok()
         .filter(|n| (1..=most).contains(n))
+        .ok_or(refusal)
 }
 
 /// Where the parts of a design begin after its plant's matrix, and where it ends: `b`, `off`, the law's denominator, its
@@ -112,8 +116,8 @@ impl Sizes {
     pub(crate) fn of(design: &[u8], set: &[u8]) -> Option<Sizes>
         ensures { (f : ℕ → ℕ → ℕ) → option_map (λ z. f z.n z.faces) result ≡ both f (size_of most_numbers design.now) (size_of most_faces set.now) }
     {
-        let n = size(design, NUMBERS)?;
-        let faces = size(set, FACES)?;
+        let n = size(Document::Design, design, NUMBERS).ok()?;
+        let faces = size(Document::Set, set, FACES).ok()?;
         Some(Sizes { n, faces })
     }
 

@@ -44,7 +44,9 @@ fn check_lengths(design: &[u8], set: &[u8], sheet: &[u8]) -> Result<(), Refusal>
     fits(
         Document::Design,
         design,
-        size(design, NUMBERS).map(|n| DesignParts::of(n).end),
+        size(Document::Design, design, NUMBERS)
+            .ok()
+            .map(|n| DesignParts::of(n).end),
     )?;
     fits(Document::Set, set, sizes.map(Sizes::set_count))?;
     fits(Document::Sheet, sheet, sizes.map(Sizes::sheet_count))
@@ -55,10 +57,7 @@ pub(crate) fn check_design(bytes: &[u8]) -> Result<SoundDesign<'_>, Refusal>
     requires { Whole (design_given bytes.now) }
     ensures { MatchResult result (λ d. (d.bytes.now ≡ bytes.now) × Ranged (design_given bytes.now)) (FirstNumber Document.Design (design_given bytes.now)) }
 {
-    let n = size(bytes, NUMBERS).ok_or(Refusal::Range {
-        document: Document::Design,
-        place: 0,
-    })?;
+    let n = size(Document::Design, bytes, NUMBERS)?;
     let over = number_at(bytes, 2);
     in_range(&DesignLayout { n, over }, bytes)?;
     Ok(SoundDesign { n, bytes })
@@ -72,10 +71,7 @@ pub(crate) fn check_set<'a>(
     requires { Whole (set_given design.bytes.now bytes.now) }
     ensures { MatchResult result (λ s. (s.design.bytes.now ≡ design.entry.bytes.now) × (s.bytes.now ≡ bytes.now) × Ranged (set_given design.entry.bytes.now bytes.now)) (FirstNumber Document.Set (set_given design.entry.bytes.now bytes.now)) }
 {
-    let faces = size(bytes, FACES).ok_or(Refusal::Range {
-        document: Document::Set,
-        place: 0,
-    })?;
+    let faces = size(Document::Set, bytes, FACES)?;
     let sizes = Sizes { n: design.n, faces };
     in_range(&SetLayout { sizes }, bytes)?;
     Ok(SoundSet {
