@@ -1,2 +1,2 @@
--- Lemmas on rounding, for this crate and those above.
+-- Lemmas on rounding.
 pub mod Rounding

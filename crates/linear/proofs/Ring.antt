@@ -1,4 +1,4 @@
--- The laws of sums, products, orders and sizes of whole numbers that the library lacks.
+-- The laws of sums, products, orders and sizes of whole numbers that the library lacks; some are for the rules to come.
 use Rattle.std.proofs.Common.{◌≡◌, ℕ, ◌+◌, ◌*◌, ◌<◌, ◌≤◌, ℤ, pos, negsuc, ◌+ℤ◌, ◌-ℤ◌, ◌*ℤ◌, neg_ℤ, nat_abs, ◌≤ℤ◌, sym, refl, ap, ◌∙◌, mul-le-mul, mul-le-mul_left, arith}
 use native.Mathlib.Nat.{le_of_mul-le-mul_left}
 use borrow.Author.Differences.{ints, up, down, sum_is_lem, product_is, neg_is, le_out}

@@ -1,3 +1,4 @@
+-- Lemmas that several proofs share, here and in the crates above.
 pub mod Alarming
 pub mod Anys
 pub mod Faulty
