@@ -26,7 +26,7 @@ fn run_beats(design: &Design, readings: &[u8], out: &mut [Outcome])
 }
 
 /// What each beat of a recording comes to, as many as there are readings for and room for: their number, or the
-/// documents' first fault.
+/// documents' first fault. The slice is lent, so that the loop asks for no memory, and the number says what was written.
 pub fn run(design: &[u8], set: &[u8], readings: &[u8], out: &mut [Outcome]) -> Result<usize, Fault>
     ensures { Runs design.now set.now readings.now out.old out.new result }
 {

@@ -16,6 +16,7 @@ const DESIGN: [i64; 16] = [2, 110, 100, 90, 20, 0, 95, 0, 10, 50, 50, 2, 2, 7, 2
 
 const SET: [i64; 13] = [4, 1, 0, 21, -1, 0, 21, 0, 1, 8, 0, -1, 8];
 
+// As in `format_tests`: a crate for two such helpers would be longer than both.
 fn bytes(heap: Global, numbers: &[i64]) -> Result<Vec<u8>, AllocError> {
     let mut bytes = Vec::new(heap);
     for x in numbers {

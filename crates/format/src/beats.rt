@@ -41,7 +41,7 @@ fn check_readings(readings: &[u8], n: usize) -> Result<(), Fault>
 }
 
 /// That the design and the set are as long as the sizes in their first numbers say, and the readings in form, or the
-/// first fault of these.
+/// first fault of these. Of `check_lengths` it has two lines, but promises a step of a chain.
 fn check_form(design: &[u8], set: &[u8], readings: &[u8]) -> Result<(), Fault>
     ensures { Passed (recording_form design.now set.now readings.now) result }
 {

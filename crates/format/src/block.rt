@@ -1,4 +1,4 @@
-//! Where the numbers of a table stand in a document.
+//! Where the numbers of a table stand in a document. Nothing compares or prints a block.
 ghost use Rattle.std.specs.Prelude.{◌<◌};
 
 /// `rows` rows of `columns` numbers: entry `stride * i + j` of the table is number `base + pitch * i + j` of the document.

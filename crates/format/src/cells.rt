@@ -33,7 +33,8 @@ impl Block {
     }
 }
 
-/// The table of a block whose numbers are known to be at most `BOUND` in size.
+/// The table of a block whose numbers are known to be at most `BOUND` in size. `narrow`, here and below, is a fact about a
+/// type, decided where that is written out.
 pub(crate) fn read_block<const LEN: usize, const BOUND: u32>(
     bytes: &[u8],
     block: Block,
@@ -46,6 +47,7 @@ pub(crate) fn read_block<const LEN: usize, const BOUND: u32>(
     // Not `array::from_fn`, which would ask each caller for a proof that an array of `LEN` fits memory.
     let mut cells = [0i32; LEN];
     for (s, cell) in cells.iter_mut().enumerate() {
+        // The cast loses nothing, by `small` and `narrow`.
         *cell = block.slot(bytes, s) as i32;
     }
     Table { cells }

@@ -20,6 +20,7 @@ pub struct Plant {
 }
 
 /// A plant and a law with `n` numbers for the state, the largest answer `limit`, and how far a true reading may be off.
+/// Memory is fixed: here, as in sets and sheets, a table has room for the largest sizes, and its own stand beside it.
 #[derive(Clone, Copy, Debug, PartialEq, Eq)]
 pub struct Design {
     pub n: usize,

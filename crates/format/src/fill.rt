@@ -1,4 +1,4 @@
-//! The values of sound documents.
+//! The values of sound documents. Each says its own sizes: the types of the three have nothing in common.
 ghost use Rattle.std.specs.Prelude.{◌≡◌, ◌+◌, ◌*◌, ◌≤◌};
 ghost use Rattle.format.specs.Parts.{PlantOf, LawOf, RowsOf, TopsOf, MultipliersOf};
 ghost use Rattle.format.specs.Sizes.{most_faces, design_count, set_count, sheet_count};
@@ -76,7 +76,7 @@ impl SoundSet<'_> {
         read_block(self.bytes, block)
     }
 
-    /// The tops of its faces: each follows its row.
+    /// The tops of its faces: each follows its row. A block as that of the rows, but for each of its numbers.
     fn tops(&self) -> Table<FACES, 3_000_000>
         ensures { TopsOf self.now.design.n self.now.faces self.now.bytes.now result.cells }
     {

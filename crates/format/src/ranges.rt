@@ -1,4 +1,4 @@
-//! The ranges of the three documents.
+//! The ranges of the three documents. Nothing compares or prints a layout, and each cast here is of a small number.
 ghost use Rattle.std.specs.Prelude.{◌≡◌, ◌+◌, ◌/◌, ◌<◌, ◌≤◌, pos, unsigned_abs};
 ghost use Rattle.format.specs.declared.refusal.Document.TheVariants.{Design, Set, Sheet};
 ghost use Rattle.format.specs.Sizes.{most_numbers, design_count, set_count, sheet_count};

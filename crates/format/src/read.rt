@@ -6,7 +6,7 @@ use crate::claim::Claim;
 use crate::refusal::Refusal;
 use crate::sound::check;
 
-/// The claim that the documents make, or their first fault.
+/// The claim that the documents make, lent apart as they are had, or their first fault.
 pub fn read_claim(design: &[u8], set: &[u8], sheet: &[u8]) -> Result<Claim, Refusal>
     ensures { Reads design.now set.now sheet.now result }
 {

@@ -1,4 +1,5 @@
-//! The largest sizes, those of the tables, where the parts of the documents begin, and how many numbers they have.
+//! The largest sizes, those of the tables, where the parts of the documents begin, and how many numbers they have. Nothing
+//! compares or prints a value of these types.
 ghost use Rattle.std.specs.Prelude.{◌≡◌, ℕ, ◌≤◌, MatchResult};
 ghost use Rattle.std.specs.Option.{option_map};
 ghost use Rattle.std.specs.Result.{result_ok};
@@ -104,7 +105,7 @@ impl SheetParts {
 }
 
 /// The size of the state and the count of the faces.
-#[derive(Clone, Copy, Debug, PartialEq, Eq)]
+#[derive(Clone, Copy)]
 pub(crate) struct Sizes {
     pub n: usize,
     pub faces: usize,

@@ -1,4 +1,5 @@
-//! Sound documents: as long as their sizes say, and each number in its range; or their first fault.
+//! Sound documents: as long as their sizes say, and each number in its range; or their first fault. Nothing compares or
+//! prints one: it is for what reads it.
 ghost use Rattle.std.specs.Prelude.{◌≡◌, MatchResult};
 ghost use Rattle.format.specs.Refusals.{Sound, Refused, Whole, Ranged, FirstNumber};
 ghost use Rattle.format.specs.Parts.{DesignBytes, SetBytes, SheetBytes};

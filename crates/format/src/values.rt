@@ -1,4 +1,4 @@
-//! The numbers of the three documents.
+//! The numbers of the three documents. A size is cast as it is, since it is a small number.
 ghost use Rattle.std.specs.Prelude.{◌≡◌, ◌+◌, ◌/◌, ◌%◌, ◌<◌};
 ghost use Rattle.linear.specs.Tables.{grid as grid_of};
 ghost use Rattle.format.specs.Sizes.{design_count, set_count, sheet_count};

@@ -66,6 +66,7 @@ fn against(s: i64, size: u64) -> i32
     ensures below { pos 0 <ℤ s → result ≡ neg_ℤ (pos size) }
     ensures above { s ≤ℤ pos 0 → result ≡ pos size }
 {
+    // It fits, as is required.
     let size = size as i32;
     if s > 0 { -size } else { size }
 }

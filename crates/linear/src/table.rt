@@ -19,7 +19,8 @@ pub struct Outside {
 }
 
 impl<const LEN: usize, const BOUND: u32> Table<LEN, BOUND> {
-    /// The table of these numbers.
+    /// The table of these numbers. That the bound fits 32 bits is decided where the type is written out; a number that is
+    /// not outside then fits them too.
     pub fn new(numbers: [i64; LEN]) -> Result<Self, Outside>
         requires { BOUND < 2 ^ 31 }
         ensures { MatchResult result (λ t. t.cells ≡ numbers.entry) (λ e. FirstOutside BOUND numbers.entry e.entry) }

@@ -16,7 +16,7 @@ pub struct Outside {
 }
 
 impl Sensors {
-    /// The first of a sensor's readings that is outside.
+    /// The first of a sensor's readings that is outside. Its index is small: there are few numbers.
     fn first_outside(&self, row: &[Reading; NUMBERS]) -> Option<u8>
         ensures { MatchOption result (InRange self.now.n (sent_row row.now)) (First self.now.n (sent_row row.now)) }
     {
