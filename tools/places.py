@@ -15,7 +15,7 @@ LINES = {
     # own enums, a None or an index that stands for a failure, flags, numbers for kinds
     "1": [r"\benum \w+", r"Ok\(None\)", r"Option<\(u\d", r"fn (number|place)\(self\)", r"let \(\w+, \w+\) = match",
           r"let mut \w+ = false", r"^ +count$", r"\b\w+: bool,", r"assert!\(rt; false\)"],
-    "3": [r"\bfor \w+ in [^{]*\.\.", r"\bwhile ", r"\(0\.\.[^)]*\)\.\w+\("],
+    "3": [r"\bfor \w+ in [^{]*\.\.", r"\bwhile ", r"\(0\.\..*\)\.(any|all|find|fold|map|position)\("],
     # casts, types without == and printing, values made and taken apart by hand
     "4": [r" as [iu](8|16|32|64|size)\b", r"^fn from_to", r"derive\(Clone, Copy\)", r"^fn .*-> (Range|Stretch|Watch) ?\{?$",
           r" fn new\(\) -> \w+$", r"let (sensor|number|place) = ", r"write!\(f", r"^impl (Default|From|TryFrom)\b"],

@@ -11,7 +11,7 @@ pub(crate) const BEFORE: Outcome = Outcome::Outside {
     number: 5,
 };
 
-/// That the outcome prints this line. The heap comes beside `rt`, since one handle for both is had in a test's own body alone.
+/// That the outcome prints this line. The heap comes beside `rt`: a handle that is both is had in a test's own body alone.
 pub(crate) fn prints(
     rt: &impl Abort,
     heap: Global,
