@@ -36,12 +36,13 @@ fn an_answer_stands_before_the_sensors_called_bad(rt: HostRuntime) -> Result<(),
 }
 
 // No beat comes to the last ones, but they are outcomes too, and their places do not wrap.
-const REFUSALS: [(u8, u8, usize, &str); 7] = [
+const REFUSALS: [(u8, u8, usize, &str); 8] = [
     (0, 0, 0, "refused 9 at 0"),
     (0, 5, 5, "refused 9 at 5"),
     (1, 0, 8, "refused 9 at 8"),
     (1, 5, 13, "refused 9 at 13"),
     (2, 3, 19, "refused 9 at 19"),
+    (7, 5, 61, "refused 9 at 61"),
     (32, 0, 256, "refused 9 at 256"),
     (255, 255, 2_295, "refused 9 at 2295"),
 ];
