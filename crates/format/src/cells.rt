@@ -69,7 +69,8 @@ pub(crate) fn read_row<const LEN: usize, const BOUND: u32>(
     read_grid(bytes, base, count, 1, 1)
 }
 
-/// The table of `rows` rows of `columns` numbers from number `base` on, its rows `stride` apart.
+/// The table of `rows` rows of `columns` numbers from number `base` on, its rows `stride` apart. A block would leave the
+/// pitch open, which is `columns` here.
 pub(crate) fn read_grid<const LEN: usize, const BOUND: u32>(
     bytes: &[u8],
     base: usize,

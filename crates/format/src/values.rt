@@ -1,4 +1,5 @@
-//! The numbers of the three documents. A size is cast as it is, since it is a small number.
+//! The numbers of the three documents. A size is cast as it is, since it is a small number. Sets and sheets have their
+//! sizes as fields beside their arrays; where they are counted, the two are made `Sizes`.
 ghost use Rattle.std.specs.Prelude.{◌≡◌, ◌+◌, ◌/◌, ◌%◌, ◌<◌};
 ghost use Rattle.linear.specs.Tables.{grid as grid_of};
 ghost use Rattle.format.specs.Sizes.{design_count, set_count, sheet_count};
