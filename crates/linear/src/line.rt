@@ -146,11 +146,12 @@ impl<X: Ending> Line for ColumnOf<'_, X> {
     }
 }
 
-/// Entry `j` of row `i` of a table whose rows are `stride` apart. A place that saturates is past the end.
+/// Entry `j` of row `i` of a table whose rows are `stride` apart. A place that saturates is past the end. The stride stands
+/// on the right, where the library's test for overflow divides by it: most strides are constants.
 fn cell<X: Ending>(table: &X, stride: usize, i: usize, j: usize) -> i64
     ensures { result ≡ X.entries table.now (stride * i + j) }
 {
-    table.at(stride.saturating_mul(i).saturating_add(j))
+    table.at(i.saturating_mul(stride).saturating_add(j))
 }
 
 /// The sizes of a line's numbers.

@@ -21,7 +21,8 @@ turn g c =
     let a = g.X.Line.entries c.args.x.now k in
     let b = g.Y.Line.entries c.args.y.now k in
     let left : to_z w64 (of_z w64 c.at.result) ≡ a = omega (arith, ints) in
-    let right : to_z w64 (of_z w64 c.at-in-loop-k.result) ≡ b = omega (arith, ints) in
+    let here : c.at-in-loop-k.result ≡ b = c.at-in-loop-k.ensures ∙ ap (g.Y.Line.entries c.args.y.now) (omega arith) in
+    let right : to_z w64 (of_z w64 c.at-in-loop-k.result) ≡ b = omega (arith, ints, here) in
     record {
       more = omega arith;
       room = c.requires;
