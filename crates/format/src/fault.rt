@@ -30,6 +30,20 @@ impl Fault {
             Fault::Beats { place } | Fault::Padding { place } => Report { number: 1, place },
         }
     }
+
+    /// Which rule the documents break.
+    pub fn number(self) -> u8
+        ensures { result ≡ (fault_report self).0 }
+    {
+        self.report().number
+    }
+
+    /// The byte of its document at which it does.
+    pub fn place(self) -> usize
+        ensures { result ≡ (fault_report self).1 }
+    {
+        self.report().place
+    }
 }
 
 impl From<Refusal> for Fault {

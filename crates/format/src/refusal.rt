@@ -40,6 +40,20 @@ impl Refusal {
             },
         }
     }
+
+    /// Which rule the documents break.
+    pub fn number(self) -> u8
+        ensures { result ≡ (report_of self).0 }
+    {
+        self.report().number
+    }
+
+    /// The byte of its document at which it does.
+    pub fn place(self) -> usize
+        ensures { result ≡ (report_of self).1 }
+    {
+        self.report().place
+    }
 }
 
 /// The number of the rule that each number of the document is in its range.

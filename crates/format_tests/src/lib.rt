@@ -7,7 +7,7 @@ mod tests {
     use format::recording::{Fault, read_recording, readings_of};
     use format::refusal::{Document, Refusal};
     use format::report::Report;
-    use format::write::write;
+    use format::write::{write, write_certificate, write_design, write_faces};
     use std::alloc::{AllocError, Global};
     use std::test::Fail;
 
@@ -77,6 +77,9 @@ mod tests {
         assert_eq!(rt; write(&claim.design, heap)?, design);
         assert_eq!(rt; write(&claim.faces, heap)?, set);
         assert_eq!(rt; write(&claim.certificate, heap)?, sheet);
+        assert_eq!(rt; write_design(&claim.design, heap)?, design);
+        assert_eq!(rt; write_faces(&claim.faces, heap)?, set);
+        assert_eq!(rt; write_certificate(&claim.certificate, heap)?, sheet);
         Ok(())
     }
 
